@@ -7,13 +7,7 @@ use Rattle.ask_text.specs.Inputs.{BeginsNone, body_of, request_text}
 use Rattle.ask_text.proofs.AskLaws.{lacks-line, line_short}
 use Rattle.ask_text.proofs.Cuts.{cut_once}
 use Rattle.ask_lines.specs.Lines.{Lacks}
-
--- a text is a line, a newline, and a body
-pub text_is : (r : Request) (rest : List ℕ)
-    → request_text r ++ rest ≡ line_of (ask_of r) ++ 10 ∷ (body_of r ++ rest)
-text_is r rest =
-    append_assoc (line_of (ask_of r) ++ codes "\n") (body_of r) rest
-    ∙ append_assoc (line_of (ask_of r)) (codes "\n") (body_of r ++ rest)
+use Rattle.ask_text.proofs.InputLaws.{text_is}
 
 -- no newline stands within bytes that lack it
 pub no_front : (xs ys front rest : List ℕ) → Lacks 10 xs → length front < length xs

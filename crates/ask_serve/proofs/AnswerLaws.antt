@@ -14,21 +14,21 @@ use Rattle.map_model.specs.Requests as ask
 use Rattle.map_model.specs.Requests.{Change, Refused, Reply, Request}
 use Rattle.segment_layout.specs.Books.{is_quiet, next_book}
 use Rattle.table_rules.proofs.SequenceLaws.{sequence_wider}
-use Rattle.store_core.specs.declared.answers.Refusal.{Refusal}
-use Rattle.store_core.specs.declared.answers.Refusal.TheVariants as why
-use Rattle.store_core.specs.declared.answers.Done.{Done}
-use Rattle.store_core.specs.Answers.{AnswersChange, done_reply, facts_at, refusal_for, refused_by, reply_of}
-use Rattle.store_core.specs.Answers as store
-use Rattle.store_core.specs.Changes.{IsQuietChange, NothingChanged}
-use Rattle.store_core.specs.Changing.{IsChange}
+use Rattle.store_answers.specs.declared.answers.Refusal.{Refusal}
+use Rattle.store_answers.specs.declared.answers.Refusal.TheVariants as why
+use Rattle.store_answers.specs.declared.answers.Done.{Done}
+use Rattle.store_answers.specs.Answers.{AnswersChange, done_reply, facts_at, refusal_for, refused_by, reply_of}
+use Rattle.store_answers.specs.Answers as store
+use Rattle.store_answers.specs.Changes.{IsQuietChange, NothingChanged}
+use Rattle.store_answers.specs.Changing.{IsChange}
 use Rattle.store_model.specs.Connection.{IsConnected, StoreValue, RestsOnTable, base_of, limits_of, state_of}
-use Rattle.store_core.specs.Flushes.{IsFlush}
-use Rattle.store_core.specs.Keeps.{AnswersKeep, KeepsNow}
+use Rattle.store_answers.specs.Flushes.{IsFlush}
+use Rattle.store_answers.specs.Keeps.{AnswersKeep, KeepsNow}
 use Rattle.store_model.specs.Quiet.{charges_of, quiet_calls}
 use Rattle.store_model.specs.States.{Served, Step, accepted, facts_of, refusal, served_change}
-use Rattle.store_core.proofs.AnsweredLaws.{refusal_at, refused_is}
+use Rattle.store_answers.proofs.AnsweredLaws.{refusal_at, refused_is}
 use Rattle.data_area.proofs.CauseLaws.{calm_disk}
-use Rattle.store_core.proofs.QuietLaws.{quiet_by_book}
+use Rattle.store_answers.proofs.QuietLaws.{quiet_by_book}
 use Rattle.store_model.proofs.RequestLaws.{served_by}
 use Rattle.ask_text.specs.Replies.{reply_line_of, rest_of, told_for}
 use Rattle.ask_text.specs.declared.reply.Reply.TheVariants as head

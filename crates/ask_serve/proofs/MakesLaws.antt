@@ -8,7 +8,7 @@ use Rattle.segment_layout.specs.Books.{is_damaged, next_book}
 use Rattle.slot_codec.specs.Names.{is_name}
 use Rattle.store_model.specs.States.{Facts, Limits, Served, State, accepted, facts_of, first_refusal, object_in, object_tests, refusal, served, served_change, worn_test}
 use Rattle.store_model.proofs.RequestLaws.{served_by}
-use Rattle.store_core.proofs.StepLaws.{read_reply}
+use Rattle.store_answers.proofs.StepLaws.{read_reply}
 use Rattle.ask_serve.specs.Serving.{acknowledges}
 
 -- ---- what a request makes

@@ -11,22 +11,21 @@ use Rattle.slot_pair.specs.Finding.{HasDiskCause}
 use Rattle.map_model.specs.Requests as ask
 use Rattle.map_model.specs.Requests.{Refused, Reply, Request}
 use Rattle.extent_table.specs.declared.spot.Spot.{Spot}
-use Rattle.store_core.specs.declared.answers.Moment.{Moment}
-use Rattle.store_core.specs.declared.answers.Moment.TheVariants as moment
-use Rattle.store_core.specs.declared.answers.Refusal.{Refusal}
-use Rattle.store_core.specs.Answers.{AnswersNumber, facts_at, refusal_for, refused_by, size_at}
+use Rattle.store_answers.specs.declared.answers.Moment.{Moment}
+use Rattle.store_answers.specs.declared.answers.Moment.TheVariants as moment
+use Rattle.store_answers.specs.declared.answers.Refusal.{Refusal}
+use Rattle.store_answers.specs.Answers.{AnswersNumber, facts_at, refusal_for, refused_by, size_at}
 use Rattle.slot_codec.specs.Names.{is_name}
 use Rattle.store_model.specs.Connection.{StoreValue, base_of, limits_of, state_of}
-use Rattle.store_core.specs.Readings.{asks_for, is_damaged_read, object_read, spot_read}
+use Rattle.store_answers.specs.Readings.{asks_for, is_damaged_read, object_read, spot_read}
 use Rattle.data_area.specs.Causes.{HasSinkCause}
 use Rattle.store_model.specs.States.{Facts, Limits, Served, State, Step, accepted, facts_of, object_in, refusal, unchanged}
 use Rattle.store_model.proofs.HalfLaws.{readable_kept, readable_now, standing_of}
 use Rattle.store_model.proofs.StateLaws.{listing-read_at}
 use Rattle.data_area.proofs.CauseLaws.{calm_disk, sink_cause_after, sink_cause_as}
-use Rattle.store_core.proofs.ChangingLaws.{unchanged_itself}
-use Rattle.store_core.proofs.AnsweredLaws.{live_if, number_served, object_size, refused_is, served_is}
+use Rattle.store_answers.proofs.AnsweredLaws.{live_if, number_served, object_size, refused_is, served_is}
 use Rattle.store_model.proofs.RequestLaws.{served_by}
-use Rattle.store_core.proofs.StepLaws.{facts_same, read_reply}
+use Rattle.store_answers.proofs.StepLaws.{facts_same, read_reply}
 use Rattle.store_model.specs.Lines.{lines_of, listing_of}
 use Rattle.std.proofs.lemmas.List.{length-map}
 use Rattle.ask_text.specs.Replies.{first_line, reply_text, told_for}
@@ -43,6 +42,7 @@ use Rattle.ask_serve.proofs.PutLaws.{puts_as, puts_cut, puts_then}
 use Rattle.ask_serve.specs.Ready.{CanRead, CanServe}
 use Rattle.ask_serve.proofs.ServingLaws.{StaysAt}
 use Rattle.ask_serve.proofs.ReplyLaws.{no_disk_fault, reads_replies, sink_calm, sink_serving}
+use Rattle.disk_face.proofs.FrameLaws.{unchanged_itself}
 
 -- a store that may be asked anything may be read
 pub can_read : {classes : ℕ} {s : StoreValue} {d : disk.State} → CanServe classes s d → CanRead classes s d

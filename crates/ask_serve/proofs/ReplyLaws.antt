@@ -8,9 +8,9 @@ use Rattle.disk_face.specs.Streams.{SinkState}
 use Rattle.slot_pair.specs.Finding.{HasDiskCause}
 use Rattle.map_model.specs.Requests as ask
 use Rattle.map_model.specs.Requests.{Reply, Request}
-use Rattle.store_core.specs.declared.answers.Refusal.{Refusal}
-use Rattle.store_core.specs.declared.answers.Refusal.TheVariants as why
-use Rattle.store_core.specs.Answers.{AnswersList, AnswersRead}
+use Rattle.store_answers.specs.declared.answers.Refusal.{Refusal}
+use Rattle.store_answers.specs.declared.answers.Refusal.TheVariants as why
+use Rattle.store_answers.specs.Answers.{AnswersList, AnswersRead}
 use Rattle.data_area.specs.Causes.{HasSinkCause}
 use Rattle.store_model.specs.Connection.{StoreValue}
 use Rattle.data_area.proofs.CauseLaws.{calm_sink, disk_cause_as, sink_cause_as}

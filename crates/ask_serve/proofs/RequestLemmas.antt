@@ -11,7 +11,7 @@ use Rattle.ask_text.specs.declared.ask.Ask.TheVariants as ask
 use Rattle.ask_text.proofs.AskLaws.{lacks-line, line_one}
 use Rattle.ask_text.proofs.Cuts.{cut_once}
 use Rattle.ask_serve.specs.Inputs.{BeginsRequest, HasBody, HoldsObject, LacksObject, size_asked}
-use Rattle.ask_lines.proofs.LineLaws.{text_is}
+use Rattle.ask_text.proofs.InputLaws.{text_is}
 
 -- a request without an object is its line
 bare : (told : Type 0) (input rest body : List ℕ) (r : Request) → HasText r → HasBody body r → body_of r ≡ []

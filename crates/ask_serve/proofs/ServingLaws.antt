@@ -13,11 +13,11 @@ use Rattle.table_rules.proofs.SequenceLaws.{sequence_wider}
 use Rattle.store_model.specs.Connection.{IsKeptImage, IsOver, StoreValue, SameOnTable, base_of, limits_of, state_of}
 use Rattle.store_model.specs.Stores.{IsStore}
 use Rattle.store_model.specs.States.{Served, Step, facts_of, refusal, unchanged}
-use Rattle.store_core.specs.Answers.{facts_at}
-use Rattle.store_core.proofs.AnsweredLaws.{refusal_at}
+use Rattle.store_answers.specs.Answers.{facts_at}
+use Rattle.store_answers.proofs.AnsweredLaws.{refusal_at}
 use Rattle.store_model.proofs.RequestLaws.{served_by}
 use Rattle.store_model.proofs.OverLaws.{kept_image}
-use Rattle.store_core.proofs.OpenedLaws.{tight_now}
+use Rattle.store_answers.proofs.OpenedLaws.{tight_now}
 use Rattle.ask_text.specs.declared.ends.End.{End}
 use Rattle.ask_serve.specs.Ready.{CanServe}
 use Rattle.ask_serve.specs.Serving.{IsServingImage, Serves, calls_of, is_changing, is_disk_fault, reply_at, served_at}

@@ -3,10 +3,10 @@ use Rattle.std.specs.Prelude.{◌≡◌, ◌≢◌, ◌⊎◌, ℕ, ◌++◌, Bo
 use Rattle.std.proofs.Common.{ap, sym, ◌∙◌, subst, inl, inr}
 use Rattle.disk_face.specs.Streams.{Puts, SinkState}
 use Rattle.slot_pair.specs.Finding.{HasDiskCause}
-use Rattle.store_core.specs.Answers.{AnswersRead}
+use Rattle.store_answers.specs.Answers.{AnswersRead}
 use Rattle.data_area.specs.Causes.{HasSinkCause}
-use Rattle.store_core.specs.declared.answers.Refusal.{Refusal}
-use Rattle.store_core.specs.declared.answers.Refusal.TheVariants as why
+use Rattle.store_answers.specs.declared.answers.Refusal.{Refusal}
+use Rattle.store_answers.specs.declared.answers.Refusal.TheVariants as why
 use Rattle.data_area.proofs.CauseLaws.{calm_disk, sink_cause_after}
 use Rattle.ask_text.specs.Replies.{first_line}
 use Rattle.ask_text.specs.declared.reply.Reply.TheVariants as head

@@ -4,7 +4,7 @@ use Rattle.std.proofs.Common.{lt-ltb}
 use Rattle.size_class.specs.declared.TheConstants.{SIZE_MAX}
 use Rattle.map_model.specs.Requests as ask
 use Rattle.slot_codec.specs.Names.{is_name}
-use Rattle.store_core.specs.Answers.{facts_at}
+use Rattle.store_answers.specs.Answers.{facts_at}
 use Rattle.store_model.specs.Connection.{StoreValue, limits_of}
 use Rattle.store_model.specs.Quiet.{put_of}
 use Rattle.store_model.specs.States.{refusal}

@@ -3,9 +3,9 @@ use Rattle.std.specs.Prelude.{◌≡◌, ℕ, Bool, true, false, if◌then◌els
 use Rattle.disk_face.specs.States as disk
 use Rattle.slot_pair.specs.Finding.{HasDiskCause}
 use Rattle.map_model.specs.Requests.{Request}
-use Rattle.store_core.specs.declared.answers.Refusal.{Refusal}
-use Rattle.store_core.specs.declared.answers.Refusal.TheVariants as why
-use Rattle.store_core.specs.declared.answers.Done.{Done}
+use Rattle.store_answers.specs.declared.answers.Refusal.{Refusal}
+use Rattle.store_answers.specs.declared.answers.Refusal.TheVariants as why
+use Rattle.store_answers.specs.declared.answers.Done.{Done}
 use Rattle.store_model.specs.Connection.{StoreValue}
 use Rattle.ask_text.specs.Replies.{first_line, reply_line_of, rest_of}
 use Rattle.ask_text.specs.declared.reply.Reply.{Reply}

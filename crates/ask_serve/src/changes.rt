@@ -106,8 +106,8 @@ pub fn serve_stat<const C: usize, D: Disk>(store: &mut Store<C>, disk: &mut D) -
     }
 }
 
-/// What is replied to a change.
-fn answer_change(answer: Result<Done, Refusal>) -> Result<Reply, End>
+/// What is replied to a change or a checkpoint; an end where a device failed.
+pub fn answer_change(answer: Result<Done, Refusal>) -> Result<Reply, End>
     ensures { result ≡ answer_change answer }
 {
     match answer {

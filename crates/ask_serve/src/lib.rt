@@ -10,7 +10,7 @@ mod reads;
 mod request;
 mod serving;
 
-pub use changes::{serve_back, serve_keep, serve_stat};
+pub use changes::{answer_change, serve_back, serve_keep, serve_stat};
 pub use heads::answer_of;
 pub use line::read_first;
 pub use reads::{serve_get, serve_list, serve_old};

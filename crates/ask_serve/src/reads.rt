@@ -3,7 +3,7 @@ ghost use Rattle.std.specs.Prelude.{◌≡◌, false, IfErr, IfOk, IsTrue, None}
 ghost use Rattle.disk_face.specs.{Devices.{devices}, Frames.{Unchanged}};
 ghost use Rattle.slot_pair.specs.Finding.{HasDiskCause};
 ghost use Rattle.map_model.specs.Requests as ask;
-ghost use Rattle.store_core.specs.{Answers.{refused_by}, Readings.{asks_for, is_damaged_read, object_read}};
+ghost use Rattle.store_answers.specs.{Answers.{refused_by}, Readings.{asks_for, is_damaged_read, object_read}};
 ghost use Rattle.store_model.specs.{Connection.{state_of}, Halves.{IsReadable}, Lines.{lines_of, listing_of}};
 ghost use Rattle.data_area.specs.Causes.{HasSinkCause};
 ghost use Rattle.ask_serve.specs.{Putting.{PutsStop}, ReplyLines.{object_text}, Ready.{CanRead}, Serving.{GivesReply, IsServingFault, PutsText}};

@@ -1,8 +1,8 @@
 -- An input is the texts of one list of requests, and then of what begins with none.
-use Rattle.std.proofs.Common.{◌≡◌, ℕ, List, ◌∷◌, [], ◌++◌, length, append_assoc, refl, sym, ap, ◌∙◌, arith, Option, Some, None}
+use Rattle.std.proofs.Common.{◌≡◌, ℕ, List, ◌∷◌, [], ◌++◌, length, append_assoc, refl, sym, ap, ◌∙◌, arith, Option, Some, None, length-append}
 use Rattle.std.proofs.lemmas.List.{append_cancel_left}
-use Rattle.std.specs.List.{AllByRecursion, flat_map}
-use Rattle.std.specs.Prelude.{codes}
+use Rattle.std.specs.List.{AllByRecursion, flat_map, list_all}
+use Rattle.std.specs.Prelude.{codes, nat_le, nat_lt, ◌&&◌, ◌≤◌}
 use Rattle.map_model.specs.Requests.{Change, Request}
 use Rattle.map_model.specs.Requests as request
 use Rattle.ask_text.proofs.AskLaws.{lacks-line, line_one}
@@ -11,9 +11,12 @@ use Rattle.ask_text.specs.Asks.{ask_of, change_ask, line_of}
 use Rattle.ask_text.specs.Inputs.{Asks, BeginsNone, HasText, body_of, change_body, request_text}
 use Rattle.ask_text.specs.declared.ask.Ask.{Ask}
 use Rattle.ask_text.specs.declared.ask.Ask.TheVariants as ask
+use Rattle.slot_codec.specs.Names.{IsName, is_name_byte}
+use Rattle.ask_text.specs.Words.{IsWord}
+use Rattle.std.proofs.lemmas.Bool.{and_from, and_parts, le-leb, leb-true}
 
 -- a text is a line, a newline, and a body
-text_is : (r : Request) (rest : List ℕ)
+pub text_is : (r : Request) (rest : List ℕ)
     → request_text r ++ rest ≡ line_of (ask_of r) ++ 10 ∷ (body_of r ++ rest)
 text_is r rest =
     append_assoc (line_of (ask_of r) ++ codes "\n") (body_of r) rest
@@ -127,3 +130,21 @@ many_one (r ∷ rs) (s ∷ ss) e f a b n m h =
 pub input_one : (input : List ℕ) (rs ss : List Request) (e f : List ℕ) → Asks input rs e → Asks input ss f
     → (rs ≡ ss) × (e ≡ f)
 input_one input rs ss e f a b = many_one rs ss e f a.each b.each a.ended b.ended (sym a.whole ∙ b.whole)
+
+-- a name is a word
+pub named_word : (name : List ℕ) → IsName name → IsWord name
+named_word name h =
+    let parts = and_parts (nat_lt 0 (length name) && nat_le (length name) 63)
+    (list_all is_name_byte name) h in
+    let sizes = and_parts (nat_lt 0 (length name)) (nat_le (length name) 63) parts.0 in
+    and_from (nat_lt 0 (length name) && nat_le (length name) 255) (list_all is_name_byte name)
+    (and_from (nat_lt 0 (length name)) (nat_le (length name) 255) sizes.0
+    (le-leb (length name) 255 (omega (arith, leb-true (length name) 63 sizes.1)))) parts.1
+
+-- no text is empty
+pub text_some : (r : Request) → 1 ≤ length (request_text r)
+text_some r = omega (
+  arith,
+  length-append (line_of (ask_of r) ++ codes "\n") (body_of r),
+  length-append (line_of (ask_of r)) (codes "\n"),
+)

@@ -16,13 +16,14 @@ use Rattle.command_face.specs.Outcomes.{status_at, status_of}
 use Rattle.command_face.specs.declared.status.TheConstants.{DONE, NO_FILE, NO_STORE, SINK_FAILED}
 use Rattle.command_face.specs.declared.stop.StopReason.{StopReason}
 use Rattle.command_face.specs.declared.stop.StopReason.TheVariants as stop
-use Rattle.served_file.proofs.StepsLaws.{KeepsDone, sinkless}
+use Rattle.served_file.proofs.StepsLaws.{KeepsDone, sinkless, causes_since}
 use Rattle.batch_core.specs.Answers.{Applies, Finishes, IsReadBy}
 use Rattle.batch_core.specs.StoresOn.{store_on}
 use Rattle.batch_core.specs.declared.fault.BatchFault.{BatchFault}
 use Rattle.batch_core.specs.declared.fault.BatchFault.TheVariants as fault
 use Rattle.batch_command.specs.Batching.{is_batching}
 use Rattle.batch_command.specs.Doing.{AppliesInput, EndsAs, IsBatching, PutsReply, reason_of}
+use Rattle.disk_face.proofs.FrameLaws.{keeps_then, keeps_unchanged}
 
 -- The end of a call that kept the devices: the line of an answer was put, or the sink failed; or it stopped
 -- with a status that such a call may have, and nothing was put.
@@ -33,34 +34,6 @@ pub record Ended (a b : Devices) (end : Result (Unit {0}) StopReason) : Type 0 w
   pub how : ((status_at end ≡ DONE) ⊎ (status_at end ≡ SINK_FAILED)) ⊎ (b.sink ≡ a.sink)
   pub there : status_at end ≢ NO_FILE
   pub store : status_at end ≢ NO_STORE
-
-keeps_unchanged : {a b : State} → Unchanged a b → KeepsDisk a b
-keeps_unchanged same = record { no_turn_back = omega (arith, same.same_turn); stays = same.stays }
-
--- what is kept by one call after another
-keeps_then : {a b c : State} → KeepsDisk a b → KeepsDisk b c → KeepsDisk a c
-keeps_then one more = record {
-  no_turn_back = omega (arith, one.no_turn_back, more.no_turn_back);
-  stays = record {
-    ready = more.stays.ready;
-    told = more.stays.told ∙ one.stays.told;
-    images_told = more.stays.images_told ∙ one.stays.images_told;
-    same_mount = more.stays.same_mount ∙ one.stays.same_mount;
-  };
-}
-
--- no call failed before
-causes_since : (a b c : State) (out put : SinkState) (end : Result (Unit {0}) StopReason)
-    → b.faults ≡ a.faults → HasCausesAt b c out put end → HasCausesAt a c out put end
-causes_since a b c out put end calm is = record {
-  later = omega (arith, calm, is.later);
-  rose = λ e. omega (arith, calm, is.rose e);
-  calm = λ e. is.calm e ∙ calm;
-  sink_later = is.sink_later;
-  sink_rose = is.sink_rose;
-  sink_calm = is.sink_calm;
-  sink_told = is.sink_told;
-}
 
 -- ---- why a batch wasn't done
 

@@ -17,18 +17,9 @@ use Rattle.batch_core.specs.StoresOn.{StandsFor, StoreOn}
 use Rattle.batch_core.specs.declared.fault.BatchFault.{BatchFault}
 use Rattle.batch_core.specs.declared.fault.BatchFault.TheVariants as fault
 use Rattle.batch_core.proofs.ApplyLaws.{can_apply, few_made_by, goes_begun, stops_begun}
+use Rattle.disk_face.proofs.FrameLaws.{unchanged_itself}
 
 -- ---- nothing was begun
-
-pub unchanged_same : (a : disk.State) → IsTrue a.is_ready → Unchanged a a
-unchanged_same a ready = record {
-  same_file = λ told. refl;
-  images = λ image may. may;
-  since = Leaves-none a a.may_leave;
-  same_turn = refl;
-  later = omega arith;
-  stays = record { ready = ready; told = refl; images_told = refl; same_mount = refl };
-}
 
 -- ---- an empty text
 

@@ -14,7 +14,7 @@ use Rattle.table_rules.specs.Sequences.{HasSequenceUpTo}
 use Rattle.table_rules.proofs.SequenceLaws.{sequence_wider}
 use Rattle.placement_model.specs.Reads.{EndWithin, read_at}
 use Rattle.placement_model.proofs.LaidOutLaws.{laid_within}
-use Rattle.change_charges.proofs.SizedLaws.{sized_read}
+use Rattle.change_charges.proofs.SizedLaws.{sized_read, sized_len}
 use Rattle.store_model.specs.Connection.{StoreValue, base_of, live_cap}
 use Rattle.store_model.proofs.OverLaws.{kept_image, same_itself}
 use Rattle.store_model.proofs.StoreLaws.{now_lies}
@@ -31,7 +31,7 @@ use Rattle.batch_core.specs.Going.{Goes, Going, Stops, most_after}
 use Rattle.batch_core.specs.Making.{OpensAs, OpensToLast}
 use Rattle.batch_core.specs.StoresOn.{StandsFor, StoreOn, state_on}
 use Rattle.batch_core.proofs.DoLaws.{same_cap}
-use Rattle.batch_core.proofs.FitsLaws.{counts_of, sized_len}
+use Rattle.batch_core.proofs.FitsLaws.{counts_of}
 use Rattle.batch_core.proofs.GoesLaws.{can_go_then}
 use Rattle.batch_core.proofs.RequestLaws.{sized_live}
 

@@ -13,7 +13,7 @@ use Rattle.map_model.specs.Weights.{same_name}
 use Rattle.map_model.proofs.MapLaws.{name_order, same_name-is}
 use Rattle.extent_table.specs.declared.spot.Spot.{Spot}
 use Rattle.change_charges.specs.Sized.{IsSizedBy}
-use Rattle.store_core.specs.Answers.{size_at}
+use Rattle.store_answers.specs.Answers.{size_at}
 use Rattle.data_area.proofs.CauseLaws.{calm_disk}
 use Rattle.store_model.specs.Connection.{IsOver, SameOnTable, StoreValue, base_of, live_cap, state_of}
 use Rattle.store_model.specs.States.{State, object_in}
@@ -34,9 +34,10 @@ use Rattle.batch_core.specs.declared.fault.BatchFault.{BatchFault}
 use Rattle.batch_core.specs.declared.fault.BatchFault.TheVariants as fault
 use Rattle.batch_core.proofs.ApplyLaws.{absent_stands, few_made_by, goes_begun, stands_some, stops_begun}
 use Rattle.batch_core.proofs.FetchLaws.{gone_by, there, whole_by}
-use Rattle.batch_core.proofs.FitsLaws.{len_more, sized_len}
+use Rattle.batch_core.proofs.FitsLaws.{len_more}
 use Rattle.batch_core.proofs.GoesLaws.{goes_then, going, kept_left, stops_then}
 use Rattle.batch_core.proofs.RequestLaws.{sized_live}
+use Rattle.change_charges.proofs.SizedLaws.{sized_len}
 
 -- ---- a disk that was read
 

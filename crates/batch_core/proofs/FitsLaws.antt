@@ -17,11 +17,11 @@ use Rattle.extent_table.specs.Extents.{Spots}
 use Rattle.extent_table.specs.declared.spot.Spot.{Spot}
 use Rattle.flush_run.proofs.SizeLaws.{with_image}
 use Rattle.change_charges.specs.Sized.{IsSizedBy}
-use Rattle.change_charges.proofs.SizedLaws.{sized_entries}
+use Rattle.change_charges.proofs.SizedLaws.{sized_entries, sized_len}
 use Rattle.store_model.specs.Connection.{StoreValue, live_cap}
 use Rattle.store_model.specs.Quiet.{del_of, put_of}
 use Rattle.store_model.specs.States.{refused_from}
-use Rattle.store_core.specs.Answers.{refusal_for, refused_by}
+use Rattle.store_answers.specs.Answers.{refusal_for, refused_by}
 use Rattle.batch_model.specs.Batches.{IsBatch, IsPart, applied, batch_name}
 use Rattle.batch_model.specs.Fits.{misfit}
 use Rattle.batch_model.proofs.AppliedLaws.{applied-append}
@@ -36,12 +36,6 @@ use Rattle.batch_core.proofs.RequestLaws.{sized_live}
 use Rattle.batch_core.proofs.ServedLaws.{refused_whole}
 
 -- ---- counts
-
--- a map whose objects have the sizes of spots has as many names
-pub sized_len : (m : Map) (spots : Spots) → IsSizedBy m spots → fin.len m ≡ fin.len spots
-sized_len m spots sized = fin.len-entries m ∙ sym (length-map (fin.entries m) (with_image length))
-    ∙ ap length (sized_entries m spots sized)
-    ∙ length-map (fin.entries spots) (with_image (λ (s : Spot). s.size)) ∙ sym (fin.len-entries spots)
 
 -- a name that isn't there is one more
 pub len_more : (m : Map) (name object : List ℕ) → fin.contains_key m name ≡ false

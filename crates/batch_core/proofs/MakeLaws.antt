@@ -13,22 +13,23 @@ use Rattle.store_model.specs.Connection.{IsConnected, StoreValue, limits_of}
 use Rattle.store_model.specs.Quiet.{charges_of}
 use Rattle.store_model.specs.States.{Served, State, Step, accepted, served}
 use Rattle.store_model.specs.Stores.{IsStore}
-use Rattle.store_core.specs.declared.answers.Refusal.{Refusal}
-use Rattle.store_core.specs.declared.answers.Refusal.TheVariants as why
-use Rattle.store_core.specs.declared.answers.Done.{Done}
-use Rattle.store_core.specs.Answers.{AnswersChange, done_reply, facts_at, refused_by, reply_of}
-use Rattle.store_core.specs.Answers as store
-use Rattle.store_core.specs.Changes.{IsQuietChange, NothingChanged}
-use Rattle.store_core.specs.Changing.{IsChange}
-use Rattle.store_core.specs.Flushes.{IsFlush, IsFlushImage, book_after, map_after}
-use Rattle.store_core.specs.Keeps.{AnswersKeep, KeepsNow, OpensToKeptOrNow, kept_now, now_map}
+use Rattle.store_answers.specs.declared.answers.Refusal.{Refusal}
+use Rattle.store_answers.specs.declared.answers.Refusal.TheVariants as why
+use Rattle.store_answers.specs.declared.answers.Done.{Done}
+use Rattle.store_answers.specs.Answers.{AnswersChange, done_reply, facts_at, refused_by, reply_of}
+use Rattle.store_answers.specs.Answers as store
+use Rattle.store_answers.specs.Changes.{IsQuietChange, NothingChanged}
+use Rattle.store_answers.specs.Changing.{IsChange}
+use Rattle.store_answers.specs.Flushes.{IsFlush, IsFlushImage, book_after, map_after}
+use Rattle.store_answers.specs.Keeps.{AnswersKeep, KeepsNow, OpensToKeptOrNow, kept_now, now_map}
 use Rattle.batch_core.specs.Doing.{CanGo, IsKeptNow}
 use Rattle.batch_core.specs.Making.{CanMake, IsDone, IsDoneAs, IsMakingImage, Makes, left_by, most_raised}
 use Rattle.batch_core.specs.StoresOn.{StandsFor, StoreOn, state_on}
-use Rattle.batch_core.proofs.ServedLaws.{accepted_at, accepts, missing_at, missing_gone, next_version}
+use Rattle.batch_core.proofs.ServedLaws.{accepts, missing_at, missing_gone, next_version}
 use Rattle.table_rules.specs.Sequences.{HasSequenceUpTo}
 use Rattle.table_rules.proofs.SequenceLaws.{sequence_wider}
 use Rattle.batch_core.proofs.RequestLaws.{flush_done, kept_is, missing_done, none_is, opens_as, quiet_done, same_content, same_left, sized_live}
+use Rattle.store_answers.proofs.AnsweredLaws.{served_is}
 
 -- ---- what an answer stands for
 
@@ -282,7 +283,7 @@ module _ {classes : ℕ} {T E : Type 0} (x y : StoreOn) (result : Result Done Re
 
     keep_served : served (limits_of x.store) (state_on x) ask.keep
         ≡ accepted (limits_of x.store) (state_on x) ask.keep
-    keep_served = accepts x.store x.disk.file ask.keep go.sound (accepted_at x.store ask.keep go.whole none)
+    keep_served = accepts x.store x.disk.file ask.keep go.sound (served_is x.store ask.keep go.whole none)
 
     keep_done : (done : Done) → result ≡ Ok done → IsDone classes ask.keep x y m
     keep_done done ok =

@@ -23,19 +23,20 @@ use Rattle.store_model.specs.Quiet.{charges_of}
 use Rattle.store_model.specs.States.{Served, State, Step, accepted, served}
 use Rattle.store_model.specs.Stores.{IsStore}
 use Rattle.store_model.proofs.OverLaws.{kept_image, same_itself}
-use Rattle.store_core.specs.declared.answers.Refusal.{Refusal}
-use Rattle.store_core.specs.Answers.{facts_at, refused_by}
-use Rattle.store_core.specs.Changes.{ChangesQuietly, HasChanged, NothingChanged}
-use Rattle.store_core.specs.Flushes.{ChangesByFlush}
-use Rattle.store_core.proofs.QuietLaws.{quiet_by_book}
+use Rattle.store_answers.specs.declared.answers.Refusal.{Refusal}
+use Rattle.store_answers.specs.Answers.{facts_at, refused_by}
+use Rattle.store_answers.specs.Changes.{ChangesQuietly, HasChanged, NothingChanged}
+use Rattle.store_answers.specs.Flushes.{ChangesByFlush}
+use Rattle.store_answers.proofs.QuietLaws.{quiet_by_book}
 use Rattle.batch_model.specs.Fits.{made_by}
 use Rattle.batch_model.proofs.AppliedLaws.{get-changed, remove-absent}
 use Rattle.batch_core.specs.Doing.{CanGo}
 use Rattle.batch_core.specs.Making.{IsDone, IsMakingImage, left_by, most_raised, raised_by}
 use Rattle.batch_core.specs.StoresOn.{RestsOn, StandsFor, StoreOn, state_on}
-use Rattle.batch_core.proofs.ServedLaws.{accepted_at, accepts, change_map, next_version, quiet_kept, served_live, version_same}
+use Rattle.batch_core.proofs.ServedLaws.{accepts, change_map, next_version, quiet_kept, served_live, version_same}
 use Rattle.table_rules.specs.Sequences.{HasSequenceUpTo}
 use Rattle.table_rules.proofs.SequenceLaws.{sequence_wider}
+use Rattle.store_answers.proofs.AnsweredLaws.{served_is}
 
 -- ---- names
 
@@ -78,7 +79,7 @@ module _ {classes : ℕ} (x y : StoreOn) (m : Map) (go : CanGo classes x) (stand
       (state_on y)) (sound : IsStore classes new) where
     is_served : served (limits_of s) (state_on x) (ask.change c)
         ≡ accepted (limits_of s) (state_on x) (ask.change c)
-    is_served = accepts s a.file (ask.change c) go.sound (accepted_at s (ask.change c) go.whole accepted_c)
+    is_served = accepts s a.file (ask.change c) go.sound (served_is s (ask.change c) go.whole accepted_c)
 
     map_now : IsTrue a.tells → (state_on y).map ≡ changed c m
     map_now told = ap (λ (t : State). t.map) (step told).1.state
@@ -94,7 +95,7 @@ module _ {classes : ℕ} (x y : StoreOn) (m : Map) (go : CanGo classes x) (stand
         by None none = ap (λ (b : Bool). if b then 1 else 0) (sized_live m s.now c.name stands.sized
             ∙ live (fin.contains_key s.now c.name) (served_live (limits_of s)
             (facts_at s (ask.change (record { name = c.name; object = None }))) c.name
-            (accepted_at s (ask.change (record { name = c.name; object = None })) go.whole none)))
+            (served_is s (ask.change (record { name = c.name; object = None })) go.whole none)))
           where
             live : (b : Bool) → not b ≡ false → b ≡ true
             live true is = refl

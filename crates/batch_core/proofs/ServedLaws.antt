@@ -11,10 +11,11 @@ use Rattle.store_model.specs.Connection.{StoreValue, limits_of, state_of}
 use Rattle.store_model.specs.States.{Facts, Limits, State, accepted, refusal, refused_from, served, served_change}
 use Rattle.store_model.specs.Stores.{IsStore}
 use Rattle.store_model.proofs.DigestLaws.{next_digests}
-use Rattle.store_core.specs.Answers.{facts_at, refusal_for, refused_by}
-use Rattle.store_core.specs.declared.answers.Refusal.TheVariants as why
+use Rattle.store_answers.specs.Answers.{facts_at, refusal_for, refused_by}
+use Rattle.store_answers.specs.declared.answers.Refusal.TheVariants as why
 use Rattle.store_model.proofs.RequestLaws.{served_by}
-use Rattle.store_core.proofs.StepLaws.{facts_same}
+use Rattle.store_answers.proofs.StepLaws.{facts_same}
+use Rattle.store_answers.proofs.AnsweredLaws.{served_is}
 
 -- ---- refusals
 
@@ -36,10 +37,6 @@ pub refused_whole : (s : StoreValue) (r : Request) → s.is_broken ≡ false
     → refused_by s r ≡ option_map refusal_for (refusal (limits_of s) (facts_at s r) r)
 refused_whole s r whole = ap (λ (b : Bool). if b then Some why.Broken
     else option_map refusal_for (refusal (limits_of s) (facts_at s r) r)) whole
-
-pub accepted_at : (s : StoreValue) (r : Request) → s.is_broken ≡ false → refused_by s r ≡ None
-    → refusal (limits_of s) (facts_at s r) r ≡ None
-accepted_at s r whole none = none_of _ (sym (refused_whole s r whole) ∙ none)
 
 pub missing_at : (s : StoreValue) (r : Request) → s.is_broken ≡ false → refused_by s r ≡ Some why.Missing
     → refusal (limits_of s) (facts_at s r) r ≡ Some ask.missing

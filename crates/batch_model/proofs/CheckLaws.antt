@@ -18,11 +18,7 @@ use Rattle.batch_model.specs.Batches.{Begins, IsPart, Rises, RisesFrom, StopsAt,
 use Rattle.batch_model.specs.Parts.{CanStand, IsChecked, IsNoPart, is_behind, last_from}
 use Rattle.batch_model.proofs.PartLaws.{can_text}
 use Rattle.batch_model.proofs.TextLaws.{part_text}
-
-is_less : (o : Ordering) → is_lt o ≡ true → o ≡ Less
-is_less Less p = refl
-is_less Equal p = absurd (cc)
-is_less Greater p = absurd (cc)
+use Rattle.slot_codec.proofs.OrderLemmas.{is_less}
 
 -- ---- names that rise
 

@@ -17,6 +17,7 @@ use Rattle.batch_model.specs.Parts.{CanStand, IsNoPart}
 use Rattle.batch_model.proofs.PartLaws.{can_text}
 use Rattle.batch_model.proofs.TextLaws.{part_text, text_some}
 use Rattle.batch_model.proofs.CountLaws.{other_way}
+use Rattle.batch_model.proofs.ViewLaws.{front_parts}
 
 -- ---- reading on
 
@@ -76,10 +77,6 @@ longer (c ∷ front) (d ∷ changes) rest p q is some =
       split = λ i. same i ∷ more.split i;
     }
 
-parts_front : (a b : List Change) → AllByRecursion IsPart (a ++ b) → AllByRecursion IsPart a
-parts_front [] b parts = tt
-parts_front (c ∷ a) b parts = (parts.0, parts_front a b parts.1)
-
 rises_from_front : (name : List ℕ) (a b : List Change) → RisesFrom name (a ++ b) → RisesFrom name a
 rises_from_front name [] b rises = tt
 rises_from_front name (c ∷ a) b rises = (rises.0, rises_from_front c.name a b rises.1)
@@ -107,7 +104,7 @@ stops_no_batch text n stops changes batch =
     stops.none more.next (batch_text more.others) (record {
       whole = batch.whole ∙ append-nil (batch_text changes) ∙ ap batch_text split
           ∙ text_append (stops.changes ++ more.next ∷ []) more.others;
-      parts = parts_front (stops.changes ++ more.next ∷ []) more.others
+      parts = front_parts (stops.changes ++ more.next ∷ []) more.others
           (subst (λ (x : List Change). AllByRecursion IsPart x) split batch.parts);
       rises = rises_front (stops.changes ++ more.next ∷ []) more.others
           (subst (λ (x : List Change). Rises x) split batch.rises);

@@ -16,14 +16,7 @@ use Rattle.ask_text.specs.declared.ask.Ask.TheVariants as ask
 use Rattle.ask_text.proofs.AskLaws.{lacks-line, line_one}
 use Rattle.ask_text.proofs.Cuts.{Lacks, cut_once, position-cut}
 use Rattle.batch_model.specs.Parts.{CanStand, IsNoPart}
-use Rattle.batch_model.proofs.TextLaws.{named_word}
-
--- a text is a line, a newline, and a body
-pub text_is : (r : Request) (rest : List ℕ)
-    → request_text r ++ rest ≡ line_of (ask_of r) ++ 10 ∷ (body_of r ++ rest)
-text_is r rest =
-    append_assoc (line_of (ask_of r) ++ codes "\n") (body_of r) rest
-    ∙ append_assoc (line_of (ask_of r)) (codes "\n") (body_of r ++ rest)
+use Rattle.ask_text.proofs.InputLaws.{named_word, text_is}
 
 pub no_newline : (text : List ℕ) → position (nat_eq 10) text ≡ None → BeginsNone text
 no_newline text none r rest has is =

@@ -10,18 +10,8 @@ use Rattle.map_model.specs.Requests.{Change, Request}
 use Rattle.ask_text.specs.Asks.{IsAsk, change_ask}
 use Rattle.ask_text.specs.Inputs.{HasText, request_text}
 use Rattle.ask_text.specs.Words.{IsWord}
-use Rattle.ask_text.proofs.InputLaws.{text_one}
+use Rattle.ask_text.proofs.InputLaws.{text_one, named_word}
 use Rattle.batch_model.specs.Batches.{IsBatch, IsPart, batch_text}
-
--- a name is a word
-pub named_word : (name : List ℕ) → IsName name → IsWord name
-named_word name h =
-    let parts = and_parts (nat_lt 0 (length name) && nat_le (length name) 63)
-    (list_all is_name_byte name) h in
-    let sizes = and_parts (nat_lt 0 (length name)) (nat_le (length name) 63) parts.0 in
-    and_from (nat_lt 0 (length name) && nat_le (length name) 255) (list_all is_name_byte name)
-    (and_from (nat_lt 0 (length name)) (nat_le (length name) 255) sizes.0
-    (le-leb (length name) 255 (omega (arith, leb-true (length name) 63 sizes.1)))) parts.1
 
 -- a change that may stand in a batch has a text
 pub part_text : (c : Change) → IsPart c → HasText (ask.change c)

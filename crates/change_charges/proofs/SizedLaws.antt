@@ -21,6 +21,7 @@ use Rattle.change_charges.specs.Sized.{IsSizedBy}
 use Rattle.placement_model.specs.Buffered.{HasSizes}
 use Rattle.placement_model.specs.Reads.{AreNamed, EndWithin, object_at, read_at}
 use Rattle.placement_model.proofs.ReadLaws.{get-read_at}
+use Rattle.std.proofs.lemmas.List.{length-map}
 
 -- the size of a spot
 abbrev spot_size : Spot → ℕ
@@ -111,3 +112,9 @@ sized_read base file spots named within q =
         → option_map length (option_map (object_at base file) o) ≡ option_map spot_size o
     by None is = refl
     by (Some s) is = ap Some (length-bytes_at file (base + s.place) s.size (within q s is))
+
+-- a map whose objects have the sizes of spots has as many names
+pub sized_len : (m : Map) (spots : Spots) → IsSizedBy m spots → fin.len m ≡ fin.len spots
+sized_len m spots sized = fin.len-entries m ∙ sym (length-map (fin.entries m) (with_image length))
+    ∙ ap length (sized_entries m spots sized)
+    ∙ length-map (fin.entries spots) (with_image (λ (s : Spot). s.size)) ∙ sym (fin.len-entries spots)

@@ -23,6 +23,7 @@ use Rattle.placement_model.proofs.ReadLaws.{found_by_name}
 use Rattle.flush_model.specs.declared.item.Item.{Item}
 use Rattle.flush_run.specs.Hands.{key_or_zero, spot_item, suffix_items}
 use Rattle.change_charges.specs.Items.{is_from, item_at}
+use Rattle.slot_codec.proofs.OrderLemmas.{not_tied}
 
 -- ---- each item is an object
 
@@ -85,12 +86,6 @@ module _ (b : ℕ) (e : Extents) where
   has_item it has = got_item has.0 it (slice_get-get_or (suffix_items b e) has.0 it has.1 ∙ ap Some has.2)
 
 -- ---- two items are two objects
-
--- a name below all of some entries is none of them
-not_tied : (o : Ordering) → is_lt o ≡ true → is_eq o ≡ false
-not_tied Less h = refl
-not_tied Equal h = absurd (cc)
-not_tied Greater h = absurd (cc)
 
 -- Of a relation that holds between the images of entries with two names, the images of what passed are
 -- pairwise related.

@@ -17,7 +17,9 @@ use Rattle.served_file.proofs.StepsLaws.{KeepsDone, sinkless}
 use Rattle.ask_text.specs.declared.ends.End.{End}
 use Rattle.ask_text.specs.declared.ends.End.TheVariants as ends
 use Rattle.desk_command.specs.Desking.{ComesToNone, is_desking}
-use Rattle.desk_command.specs.Doing.{HasNoMemory, IsDesking, end_of}
+use Rattle.desk_command.specs.Doing.{HasNoMemory, IsDesking}
+use Rattle.disk_face.proofs.FrameLaws.{keeps_unchanged}
+use Rattle.served_file.specs.Ends.{end_of}
 
 -- ---- the statuses of a desk
 
@@ -88,9 +90,6 @@ status_for ends.Budget n = record {
 }
 
 -- ---- what is kept
-
-pub keeps_unchanged : {a b : State} → Unchanged a b → KeepsDisk a b
-keeps_unchanged same = record { no_turn_back = omega (arith, same.same_turn); stays = same.stays }
 
 -- there was no memory
 none_kept : (from rest : SourceState) (a b : Devices) (end : Result (Unit {0}) StopReason)

@@ -44,11 +44,12 @@ use Rattle.desk_core.proofs.ImageLaws.{opens_with}
 use Rattle.desk_command.specs.Acts.{IsAct, IsFinishing, IsImageFrom, LastAct, OpensAsLeft, last_from, left_from, text_of}
 use Rattle.desk_command.specs.Acts as act
 use Rattle.desk_command.specs.Desking.{ComesToNone, is_desking}
-use Rattle.desk_command.specs.Doing.{ActsAt, DeskWent, HasDesked, HasPut, IsDesking, StopsAt, end_of}
+use Rattle.desk_command.specs.Doing.{ActsAt, DeskWent, HasDesked, HasPut, IsDesking, StopsAt}
 use Rattle.desk_command.specs.Promise.{DeskHolds, HowFar, IsInOrder, NumbersLine}
 use Rattle.desk_command.proofs.DoneLaws.{EndStatus, status_for}
 use Rattle.desk_command.proofs.ReachLaws.{left_low}
 use Rattle.desk_command.proofs.ScriptLaws.{Splits, act_over, none_next, splits}
+use Rattle.served_file.specs.Ends.{end_of}
 
 -- ---- orders
 

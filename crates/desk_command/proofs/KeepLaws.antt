@@ -16,7 +16,7 @@ use Rattle.command_face.specs.declared.stop.StopReason.TheVariants as stop
 use Rattle.desk_core.specs.Benches.{Bench}
 use Rattle.desk_core.specs.Runs.{EndsIn, HasPlayed}
 use Rattle.desk_core.specs.Turns.{KeepsBench}
-use Rattle.desk_command.specs.Doing.{end_of}
+use Rattle.served_file.specs.Ends.{end_of}
 
 -- ---- how it ends, and why
 

@@ -22,7 +22,8 @@ use Rattle.desk_core.specs.Turns.{FinishesDesk, PlaysEvent, SameBench, is_unread
 use Rattle.desk_core.proofs.ImageLaws.{leaves_same}
 use Rattle.desk_command.specs.Acts.{IsAct, LastAct, desk_left, text_of}
 use Rattle.desk_command.specs.Acts as act
-use Rattle.desk_command.specs.Doing.{ActsAt, IsPartial, StopsAt, end_of}
+use Rattle.desk_command.specs.Doing.{ActsAt, IsPartial, StopsAt}
+use Rattle.served_file.specs.Ends.{end_of}
 
 -- ---- what is put
 

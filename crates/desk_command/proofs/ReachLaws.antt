@@ -5,7 +5,7 @@ use Rattle.map_model.specs.Requests as ask
 use Rattle.map_model.specs.Requests.{Change, Refused, Request}
 use Rattle.segment_layout.specs.Books.{next_book}
 use Rattle.store_model.specs.States.{Limits, Served, State, accepted, facts_of, refusal, served, served_change}
-use Rattle.store_model.proofs.RequestLaws.{served_by}
+use Rattle.store_model.proofs.RequestLaws.{served_by, served_sequence}
 use Rattle.ask_session.specs.Runs.{most_sequence}
 use Rattle.ask_session.proofs.GrowingLaws.{saves_within}
 use Rattle.desk_model.specs.Answers.{Answer}
@@ -17,32 +17,6 @@ use Rattle.desk_command.specs.Acts.{IsAct, LastAct, desk_left}
 use Rattle.desk_command.specs.Acts as act
 
 -- ---- what is served keeps the sequence, which its saves then raise
-
-change_sequence : (limits : Limits) (s : State) (c : Change) (q : Bool)
-    → (next_book limits.k s.map s.book c).quiet ≡ q → (served_change limits s c).state.sequence ≡ s.sequence
-change_sequence limits s c true is = rw is refl
-change_sequence limits s c false is = rw is refl
-
-accepted_sequence : (limits : Limits) (s : State) (r : Request)
-    → (accepted limits s r).state.sequence ≡ s.sequence
-accepted_sequence limits s (ask.change c) = change_sequence limits s c
-    (next_book limits.k s.map s.book c).quiet refl
-accepted_sequence limits s (ask.get name) = refl
-accepted_sequence limits s (ask.old name) = refl
-accepted_sequence limits s ask.keep = refl
-accepted_sequence limits s ask.back = refl
-accepted_sequence limits s ask.list = refl
-accepted_sequence limits s ask.stat = refl
-
-served_sequence : (limits : Limits) (s : State) (r : Request)
-    → (served limits s r).state.sequence ≡ s.sequence
-served_sequence limits s r = by (refusal limits (facts_of s r) r) refl
-  where
-    by : (o : Option Refused) → refusal limits (facts_of s r) r ≡ o
-        → (served limits s r).state.sequence ≡ s.sequence
-    by None is = ap (λ (x : Served). x.state.sequence) (served_by limits s r None is)
-        ∙ accepted_sequence limits s r
-    by (Some w) is = ap (λ (x : Served). x.state.sequence) (served_by limits s r (Some w) is)
 
 -- ---- a desk within a bound
 

@@ -34,10 +34,11 @@ use Rattle.desk_model.proofs.PlayLaws.{plays_more}
 use Rattle.desk_command.specs.Acts.{IsAct, IsImageFrom, LastAct, NextStep, desk_left, last_from, settled_before_last}
 use Rattle.desk_command.specs.Acts as act
 use Rattle.desk_command.specs.Desking.{KeepsSource}
-use Rattle.desk_command.specs.Doing.{DeskWent, HasDesked, IsDesking, end_of}
+use Rattle.desk_command.specs.Doing.{DeskWent, HasDesked, IsDesking}
 use Rattle.desk_command.proofs.DoneLaws.{status_for}
 use Rattle.desk_command.proofs.KeepLaws.{causes_ran, frame_ran, last_keeps, source_ran}
 use Rattle.desk_command.proofs.LastLaws.{LastEvent, calm_at, finishes_kept, last_event}
+use Rattle.served_file.specs.Ends.{end_of}
 
 -- ---- images
 

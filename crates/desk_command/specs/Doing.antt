@@ -26,17 +26,9 @@ use Rattle.desk_core.specs.Runs.{budget}
 use Rattle.desk_core.specs.Shows.{ShowsStore}
 use Rattle.desk_command.specs.Acts.{IsAct, IsBusy, IsFinishing, IsImageFrom, LastAct, OpensAsLeft, last_from, left_from, text_of}
 use Rattle.desk_command.specs.Acts as act
+use Rattle.served_file.specs.Ends.{end_of}
 
 -- ---- how it ends
-
--- how the command ends where a desk ended so, after so many events were answered
-abbrev pub end_of : End → ℕ → Result (Unit {0}) StopReason
-end_of ends.End n = Ok tt
-end_of ends.Line n = Err (stop.Line (counted n 1))
-end_of ends.Disk n = Err stop.Disk
-end_of ends.Source n = Err stop.Source
-end_of ends.Sink n = Err stop.Sink
-end_of ends.Budget n = Err stop.Budget
 
 -- the text of an event stands in front, and it is the next; or nothing is left, and there is none
 abbrev pub IsNext : List Event → List ℕ → Type 0

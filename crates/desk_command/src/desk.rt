@@ -4,12 +4,13 @@ ghost use Rattle.disk_face.specs.Devices.{devices};
 ghost use Rattle.size_class.specs.declared.TheConstants.{CLASSES};
 ghost use Rattle.store_model.specs.{Connection.{IsConnected}, Stores.{IsStore}};
 ghost use Rattle.command_face.specs.{Mounting.{IsMounted}, Outcomes.{Ends}, Refusing.{IsRefused}};
-ghost use Rattle.served_file.specs.{Steps.{FileSteps, OpenSteps}, Unserved.{NeverServed}};
-ghost use Rattle.desk_command.specs.{Desking.{DeskAlways, DeskReads, KeepsSource}, Doing.{IsDesking, end_of}, Promise.{DeskPromise}};
+ghost use Rattle.served_file.specs.{Ends.{end_of}, Steps.{FileSteps, OpenSteps}, Unserved.{NeverServed}};
+ghost use Rattle.desk_command.specs.{Desking.{DeskAlways, DeskReads, KeepsSource}, Doing.{IsDesking}, Promise.{DeskPromise}};
 
 use command_face::{DISK_FAILED, NO_FILE, Outcome, StopReason, finish, mount_there, stop_of};
 use desk_core::{Desk, End};
 use disk_face::{Bay, Disk, Sink, Source};
+use served_file::end_of;
 use size_class::CLASSES;
 use std::alloc::Global;
 use store_core::Store;
@@ -120,18 +121,4 @@ fn ended_as(end: End, desk: Desk<CLASSES>) -> Result<(), StopReason>
     let store = desk.into_store();
     store.is_broken();
     end_of(end, answered)
-}
-
-/// How the command ends where a desk ended so, after so many events were answered.
-fn end_of(end: End, answered: u64) -> Result<(), StopReason>
-    ensures { result ≡ end_of end answered }
-{
-    match end {
-        End::End => Ok(()),
-        End::Line => Err(StopReason::Line(answered.saturating_add(1))),
-        End::Disk => Err(StopReason::Disk),
-        End::Source => Err(StopReason::Source),
-        End::Sink => Err(StopReason::Sink),
-        End::Budget => Err(StopReason::Budget),
-    }
 }

@@ -11,22 +11,21 @@ use Rattle.map_model.specs.Maps.{Map}
 use Rattle.map_model.specs.Requests as ask
 use Rattle.map_model.specs.Requests.{Change, Refused, Reply, Request}
 use Rattle.segment_layout.specs.Books.{is_quiet, next_book}
-use Rattle.store_core.specs.declared.answers.Begun.{Begun}
-use Rattle.store_core.specs.declared.answers.Begun.TheVariants as begun
-use Rattle.store_core.specs.declared.answers.Refusal.{Refusal}
-use Rattle.store_core.specs.Answers.{refused_by}
-use Rattle.store_core.specs.Begins.{BeginsChange, BeginsFlush, HoldsFlush, begun_reply, origin_of}
-use Rattle.store_core.specs.Flushes.{IsFlushImage, map_after, names_after}
+use Rattle.store_answers.specs.declared.answers.Begun.{Begun}
+use Rattle.store_answers.specs.declared.answers.Begun.TheVariants as begun
+use Rattle.store_answers.specs.declared.answers.Refusal.{Refusal}
+use Rattle.store_answers.specs.Answers.{refused_by}
+use Rattle.store_answers.specs.Begins.{BeginsChange, BeginsFlush, HoldsFlush, begun_reply, origin_of}
+use Rattle.store_answers.specs.Flushes.{IsFlushImage, map_after, names_after}
 use Rattle.data_area.proofs.CauseLaws.{calm_disk}
-use Rattle.store_core.proofs.MadeFlushLaws.{len_after}
-use Rattle.store_core.proofs.QuietLaws.{quiet_by_book}
-use Rattle.store_core.proofs.AnsweredLaws.{refusal_at, served_is}
+use Rattle.store_answers.proofs.MadeFlushLaws.{len_after}
+use Rattle.store_answers.proofs.QuietLaws.{quiet_by_book}
+use Rattle.store_answers.proofs.AnsweredLaws.{refusal_at, served_is}
 use Rattle.store_model.proofs.RequestLaws.{served_by}
 use Rattle.store_model.specs.Connection.{FlushInHand, IsConnected, StoreValue, base_of, limits_of, state_of}
 use Rattle.store_model.specs.Quiet.{charges_of, quiet_calls}
 use Rattle.store_model.specs.States.{Limits, Served, State, Step, served, served_change}
 use Rattle.store_model.specs.Stores.{IsStanding}
-use Rattle.store_model.proofs.StateLaws.{len-read_at}
 use Rattle.sliced_laws.proofs.GoingLaws.{book_is}
 use Rattle.sliced_laws.proofs.SlicedLaws.{begun_done, begun_failed, in_hand_means}
 use Rattle.ask_text.specs.declared.reply.Reply as text
@@ -48,6 +47,7 @@ use Rattle.desk_core.specs.Telling.{PutsAll, PutsReply, TellsBegun}
 use Rattle.desk_core.proofs.HandLaws.{no_hand, same_hand}
 use Rattle.desk_core.proofs.ImageLaws.{opens_with, settled_idle}
 use Rattle.desk_core.proofs.TakeLaws.{answer_takes, line_plain, plain_begins, refused_plain}
+use Rattle.placement_model.proofs.EntryLaws.{len-read_at}
 
 -- ---- a change that isn't quiet
 

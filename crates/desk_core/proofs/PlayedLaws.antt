@@ -5,11 +5,10 @@ use Rattle.std.proofs.Common.{arith, ap, sym, ◌∙◌, subst, inl, inr, append
 use Rattle.std.proofs.lemmas.Grind.{flat_map-append}
 use Rattle.std.proofs.lemmas.Bool.{cases_Bool}
 use Rattle.disk_face.specs.Counts.{counted, last}
-use Rattle.disk_face.proofs.FrameLaws.{Stays-trans}
+use Rattle.disk_face.proofs.FrameLaws.{Stays-trans, unchanged_itself}
 use Rattle.disk_face.proofs.MomentLaws.{Leaves-none, Leaves-trans, Leaves-weaken}
 use Rattle.size_class.specs.declared.TheConstants.{SIZE_MAX}
 use Rattle.slot_codec.specs.declared.codec.SuperBlock.{SuperBlock}
-use Rattle.store_core.proofs.ChangingLaws.{unchanged_itself}
 use Rattle.store_model.specs.Connection.{limits_of}
 use Rattle.store_model.specs.States.{Limits}
 use Rattle.ask_text.specs.Ends.{is_budget}

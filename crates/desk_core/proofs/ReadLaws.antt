@@ -13,7 +13,6 @@ use Rattle.map_model.specs.Requests as ask
 use Rattle.map_model.specs.Requests.{Refused, Reply, Request}
 use Rattle.segment_layout.specs.Books.{Book}
 use Rattle.data_area.proofs.CauseLaws.{calm_disk, disk_cause_as, sink_cause_after, sink_cause_as}
-use Rattle.store_core.proofs.ChangingLaws.{unchanged_itself}
 use Rattle.store_model.proofs.RequestLaws.{served_by}
 use Rattle.data_area.specs.Causes.{HasSinkCause}
 use Rattle.store_model.specs.Connection.{IsOver, StoreValue, limits_of, state_of}
@@ -33,6 +32,7 @@ use Rattle.desk_core.specs.Playing.{KeepsGoing, TakesRequest, owned}
 use Rattle.desk_core.specs.Shows.{ShowsStore}
 use Rattle.desk_core.specs.Telling.{PutsAll}
 use Rattle.desk_core.proofs.ImageLaws.{leaves_same, leaves_unchanged}
+use Rattle.disk_face.proofs.FrameLaws.{unchanged_itself}
 
 -- ---- what a read leaves
 

@@ -25,6 +25,7 @@ use Rattle.desk_core.specs.Shows.{ShowsParts, ShowsStore}
 use Rattle.desk_core.specs.Telling.{PutsAll, is_read_ask}
 use Rattle.desk_core.proofs.ImageLaws.{takes_kept}
 use Rattle.desk_core.proofs.SaidLaws.{long_text}
+use Rattle.desk_model.proofs.StepLaws.{reads_of}
 
 pub either_low : (n of session : ℕ) → (n ≡ of) ⊎ (n ≡ session) → of < sessions → session < sessions
     → n < sessions
@@ -52,11 +53,6 @@ read_ask ask.keep = refl
 read_ask ask.back = refl
 read_ask ask.list = refl
 read_ask ask.stat = refl
-
-or_false : (a b : Bool) → (a || not b) ≡ false → b ≡ true
-or_false true b is = absurd (cc)
-or_false false true is = refl
-or_false false false is = absurd (cc)
 
 takes_queues : (b : Bool) (limits : Limits) (session : ℕ) (r : Request) (rest : List Request) (d : Desk)
     (x : Answer) (d' : Desk) → TakesIf b limits session r rest d x d'
@@ -268,6 +264,6 @@ module _ (session : ℕ) (low : session < sessions) (q0 : Queued) (s : StoreValu
 
         by : (q : List Request) → requests_at qs session ≡ q → IsConnected C s a
         by [] e = absurd (some qs holds e)
-        by (r ∷ rest) e = absurd (let yes : true ≡ false = sym (or_false (of == session) reads hand_free)
+        by (r ∷ rest) e = absurd (let yes : true ≡ false = sym (reads_of (of == session) reads hand_free)
             ∙ read_is qs r rest holds e ∙ sym (read_ask r)
             ∙ ap is_read_ask (sym (asks qs r rest holds e)) ∙ no_read in cc)

@@ -4,11 +4,10 @@ use Rattle.std.proofs.Common.{arith, sym, ◌∙◌, subst, inl}
 use Rattle.disk_face.specs.Counts.{Rose}
 use Rattle.disk_face.specs.States as disk
 use Rattle.disk_face.specs.Writes.{KeepsDisk}
-use Rattle.disk_face.proofs.FrameLaws.{Stays-trans}
+use Rattle.disk_face.proofs.FrameLaws.{Stays-trans, unchanged_itself}
 use Rattle.disk_face.proofs.MomentLaws.{Leaves-trans}
-use Rattle.store_core.specs.declared.answers.Progress.{Progress}
-use Rattle.store_core.specs.declared.answers.Progress.TheVariants as progress
-use Rattle.store_core.proofs.ChangingLaws.{unchanged_itself}
+use Rattle.store_answers.specs.declared.answers.Progress.{Progress}
+use Rattle.store_answers.specs.declared.answers.Progress.TheVariants as progress
 use Rattle.store_model.specs.Connection.{StoreValue}
 use Rattle.store_model.specs.Halves.{IsHalfway}
 use Rattle.ask_text.specs.declared.ends.End.{End}

@@ -4,13 +4,12 @@ use Rattle.std.proofs.Common.{ap, sym, ◌∙◌, subst, inl, inr}
 use Rattle.disk_face.specs.Moments.{Leaves}
 use Rattle.disk_face.specs.States as disk
 use Rattle.disk_face.proofs.MomentLaws.{Leaves-weaken}
-use Rattle.store_core.specs.declared.answers.Progress.{Progress}
-use Rattle.store_core.specs.declared.answers.Progress.TheVariants as progress
-use Rattle.store_core.specs.declared.answers.Refusal.{Refusal}
-use Rattle.store_core.specs.Steps.{MovesOne, Settles, StepsHalf}
+use Rattle.store_answers.specs.declared.answers.Progress.{Progress}
+use Rattle.store_answers.specs.declared.answers.Progress.TheVariants as progress
+use Rattle.store_answers.specs.declared.answers.Refusal.{Refusal}
+use Rattle.store_answers.specs.Steps.{IsStep, MovesOne, Settles, StepsHalf}
 use Rattle.store_model.specs.Connection.{FlushInHand, StoreValue}
 use Rattle.store_model.specs.Halves.{HalfAgrees, IsHalfImage, IsHalfway}
-use Rattle.sliced_laws.specs.Sliced.{IsStep}
 use Rattle.ask_text.specs.declared.ends.End.TheVariants as ends
 use Rattle.desk_model.specs.Desks.{Desk}
 use Rattle.desk_core.specs.Images.{BeganAt, Checkpoint, LeavesEnd, OpensTo, RestsFrom, kept_of, settled_of}

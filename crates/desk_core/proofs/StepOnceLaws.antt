@@ -5,7 +5,7 @@ use Rattle.std.proofs.Common.{arith, ap, sym, ◌∙◌, subst, inl, inr, append
 use Rattle.disk_face.specs.States as disk
 use Rattle.disk_face.specs.Streams.{SinkState}
 use Rattle.map_model.specs.Requests as ask
-use Rattle.store_core.specs.declared.answers.Progress.TheVariants as progress
+use Rattle.store_answers.specs.declared.answers.Progress.TheVariants as progress
 use Rattle.store_model.specs.Connection.{FlushInHand, StoreValue}
 use Rattle.store_model.specs.Halves.{IsHalfway, IsReadable}
 use Rattle.ask_text.specs.Replies.{reply_text}

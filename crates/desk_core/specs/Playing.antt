@@ -10,8 +10,8 @@ use Rattle.slot_pair.specs.Finding.{HasDiskCause}
 use Rattle.slot_pair.specs.Saves.{save_calls}
 use Rattle.map_model.specs.Requests.{Request}
 use Rattle.data_area.specs.Causes.{HasSinkCause}
-use Rattle.store_core.specs.declared.answers.Progress.{Progress}
-use Rattle.store_core.specs.declared.answers.Progress.TheVariants as progress
+use Rattle.store_answers.specs.declared.answers.Progress.{Progress}
+use Rattle.store_answers.specs.declared.answers.Progress.TheVariants as progress
 use Rattle.store_model.specs.Connection.{FlushInHand, IsConnected, StoreValue, limits_of}
 use Rattle.flush_run.specs.Calls.{piece_calls}
 use Rattle.store_model.specs.Quiet.{added}

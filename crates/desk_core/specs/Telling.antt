@@ -2,9 +2,9 @@
 use Rattle.std.specs.Prelude.{◌≡◌, ℕ, Bool, true, false, List, ◌++◌, codes, Result, Ok, Err, IfErr, IsTrue}
 use Rattle.disk_face.specs.Streams.{SinkState}
 use Rattle.data_area.specs.Causes.{HasSinkCause}
-use Rattle.store_core.specs.declared.answers.Begun.{Begun}
-use Rattle.store_core.specs.declared.answers.Begun.TheVariants as begun
-use Rattle.store_core.specs.declared.answers.Refusal.{Refusal}
+use Rattle.store_answers.specs.declared.answers.Begun.{Begun}
+use Rattle.store_answers.specs.declared.answers.Begun.TheVariants as begun
+use Rattle.store_answers.specs.declared.answers.Refusal.{Refusal}
 use Rattle.ask_text.specs.Replies.{first_line}
 use Rattle.ask_text.specs.declared.ask.Ask.{Ask}
 use Rattle.ask_text.specs.declared.ask.Ask.TheVariants as line

@@ -3,7 +3,7 @@ ghost use Rattle.std.specs.Prelude.{◌≡◌, ◌<◌, ◌≤◌, false, length
 ghost use Rattle.disk_face.specs.Devices.{devices};
 ghost use Rattle.map_model.specs.Requests as ask;
 ghost use Rattle.map_model.specs.Requests.{Request};
-ghost use Rattle.store_core.specs.Readings.{asks_for};
+ghost use Rattle.store_answers.specs.Readings.{asks_for};
 ghost use Rattle.store_model.specs.{Connection.{IsConnected}, Halves.{IsReadable}, Quiet.{del_of, put_of}, Stores.{IsStanding}};
 ghost use Rattle.ask_text.specs.Asks.{ask_of};
 ghost use Rattle.ask_serve.specs.{Inputs.{size_asked}, Ready.{CanServe}};

@@ -3,5 +3,5 @@ pub mod ServedLaws
 pub mod RunLaws
 pub mod PlayLaws
 pub mod OrderLaws
-mod StepLaws
+pub mod StepLaws
 mod WorkedLaws

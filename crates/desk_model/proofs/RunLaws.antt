@@ -9,6 +9,7 @@ use Rattle.desk_model.specs.Events.{Event}
 use Rattle.desk_model.specs.Answers.{Answer}
 use Rattle.desk_model.specs.Desks.{Desk, EventStep, Flush, Plays, SaysIf, ServesFirst, ServesIf, StepsOn, TakesIf, begins, flush_by, has_room, is_read, queue_of, waits}
 use Rattle.desk_model.specs.Orders.{RunsAsTaken, RunsFrom, Taken, replies_of, requests_of, taken_first, taken_if, taken_in}
+use Rattle.desk_model.proofs.StepLaws.{reads_of}
 
 -- a flush in hand leaves some sequence
 abbrev IsOrdered : Option Flush → Type 0
@@ -73,12 +74,6 @@ module _ (limits : Limits) (d t : Desk) (rs : List Request) (ps : List Reply)
         at_seq d.state later.0 ∷ later.3,
         (read_at_any read later.0, later.4),
       )
-
--- what doesn't wait while a flush is in hand is a read
-reads_of : (a b : Bool) → (a || not b) ≡ false → b ≡ true
-reads_of true b is = absurd (cc)
-reads_of false true is = refl
-reads_of false false is = absurd (cc)
 
 module _ (limits : Limits) (d t : Desk) (ts : List Taken)
     (run : RunsFrom limits t.hand t.state (requests_of ts) (replies_of ts)) where

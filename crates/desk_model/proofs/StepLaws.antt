@@ -24,7 +24,7 @@ stays d t a none is =
     record { fewer = omega (arith, none, same); some = λ one. omega (arith, one, same) }
 
 -- what doesn't wait while a flush is in hand is a read
-reads_of : (a b : Bool) → (a || not b) ≡ false → b ≡ true
+pub reads_of : (a b : Bool) → (a || not b) ≡ false → b ≡ true
 reads_of true b is = absurd (cc)
 reads_of false true is = refl
 reads_of false false is = absurd (cc)

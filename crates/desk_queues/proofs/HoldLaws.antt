@@ -14,16 +14,9 @@ use Rattle.desk_model.specs.Events.{sessions}
 use Rattle.desk_model.specs.Desks.{ring, texts_of, waiting}
 use Rattle.desk_queues.specs.Queues.{Holds, HoldsTexts, Queued, requests_at, ring_of}
 use Rattle.desk_queues.specs.Taken.{BeginsText}
+use Rattle.ask_text.proofs.InputLaws.{text_some}
 
 -- ---- counts
-
--- no text is empty
-pub text_some : (r : Request) → 1 ≤ length (request_text r)
-text_some r = omega (
-  arith,
-  length-append (line_of (ask_of r) ++ codes "\n") (body_of r),
-  length-append (line_of (ask_of r)) (codes "\n"),
-)
 
 -- there are no more requests than bytes
 texts_few : (q : List Request) → length q ≤ length (texts_of q)

@@ -4,10 +4,9 @@ use Rattle.std.proofs.Common.{arith, ap, sym, ◌∙◌, length-append}
 use Rattle.std.specs.List.{AllByRecursion}
 use Rattle.map_model.specs.Requests.{Request}
 use Rattle.ask_text.specs.Inputs.{HasText, request_text}
-use Rattle.ask_text.proofs.InputLaws.{text_one}
+use Rattle.ask_text.proofs.InputLaws.{text_one, text_some}
 use Rattle.desk_model.specs.Desks.{texts_of}
 use Rattle.desk_model.specs.Events.{sessions}
-use Rattle.desk_queues.proofs.HoldLaws.{text_some}
 use Rattle.desk_queues.specs.Queues.{Holds, Queued}
 
 -- texts are those of one list

@@ -13,13 +13,7 @@ use Rattle.ask_text.specs.Inputs.{HasText, body_of, change_body, request_text}
 use Rattle.ask_text.proofs.AskLaws.{lacks-line, line_short}
 use Rattle.desk_queues.specs.Queues.{ObjectIn, StandsIn}
 use Rattle.desk_queues.specs.Taken.{BeginsLine, BeginsText, Lacks}
-
--- a text is a line, a newline, and what follows it
-pub text_is : (r : Request) (rest : List ℕ)
-    → request_text r ++ rest ≡ line_of (ask_of r) ++ 10 ∷ (body_of r ++ rest)
-text_is r rest =
-    append_assoc (line_of (ask_of r) ++ codes "\n") (body_of r) rest
-    ∙ append_assoc (line_of (ask_of r)) (codes "\n") (body_of r ++ rest)
+use Rattle.ask_text.proofs.InputLaws.{text_is}
 
 pub text_begins_line : (bytes : List ℕ) → BeginsText bytes → BeginsLine bytes
 text_begins_line bytes (r, text, (rest, whole)) = (

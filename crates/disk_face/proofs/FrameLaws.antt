@@ -1,9 +1,10 @@
 -- How the frames of two calls join.
-use Rattle.std.specs.Prelude.{IsTrue}
+use Rattle.std.specs.Prelude.{IsTrue, refl}
 use Rattle.std.proofs.Common.{arith, ◌∙◌, sym, subst}
 use Rattle.disk_face.specs.States.{State}
-use Rattle.disk_face.proofs.MomentLaws.{Leaves-trans, Leaves-weaken}
+use Rattle.disk_face.proofs.MomentLaws.{Leaves-none, Leaves-trans, Leaves-weaken}
 use Rattle.disk_face.specs.Frames.{Stays, Unchanged, Untouched}
+use Rattle.disk_face.specs.Writes.{KeepsDisk}
 
 pub Stays-trans : {a b c : State} → Stays a b → Stays b c → Stays a c
 Stays-trans ab bc = record {
@@ -34,4 +35,42 @@ Untouched-then {a} ab bc = record {
   later = omega (arith, ab.later, bc.later);
   told = bc.stays.told ∙ ab.told;
   images_told = bc.stays.images_told ∙ ab.images_told;
+}
+
+-- a disk on which no call was made
+pub unchanged_itself : (a : State) → IsTrue a.is_ready → Unchanged a a
+unchanged_itself a ready = record {
+  same_file = λ told. refl;
+  images = λ image may. may;
+  since = Leaves-none a a.may_leave;
+  same_turn = refl;
+  later = omega arith;
+  stays = record { ready = ready; told = refl; images_told = refl; same_mount = refl };
+}
+
+pub untouched : {a b : State} → Unchanged a b → Untouched a b
+untouched same = record {
+  same_file = same.same_file;
+  images = same.images;
+  since = same.since;
+  same_turn = same.same_turn;
+  later = same.later;
+  told = same.stays.told;
+  images_told = same.stays.images_told;
+}
+
+-- a call that changes nothing keeps the disk
+pub keeps_unchanged : {a b : State} → Unchanged a b → KeepsDisk a b
+keeps_unchanged same = record { no_turn_back = omega (arith, same.same_turn); stays = same.stays }
+
+-- what is kept by one call after another
+pub keeps_then : {a b c : State} → KeepsDisk a b → KeepsDisk b c → KeepsDisk a c
+keeps_then one more = record {
+  no_turn_back = omega (arith, one.no_turn_back, more.no_turn_back);
+  stays = record {
+    ready = more.stays.ready;
+    told = more.stays.told ∙ one.stays.told;
+    images_told = more.stays.images_told ∙ one.stays.images_told;
+    same_mount = more.stays.same_mount ∙ one.stays.same_mount;
+  };
 }

@@ -1,14 +1,14 @@
 -- How the images of a disk in memory go on from call to call.
-use Rattle.std.specs.Prelude.{◌⊎◌, ℕ, ◌<◌, ◌≤◌, List, [], ◌∷◌, length, refl}
-use Rattle.std.proofs.Common.{arith, sym, subst, inl, inr}
-use Rattle.std.proofs.lemmas.Bool.{cases_lt}
-use Rattle.byte_ranges.specs.Ranges.{SameOutside}
+use Rattle.std.specs.Prelude.{◌⊎◌, ℕ, ◌<◌, ◌≤◌, List, [], ◌∷◌, length, refl, ◌+◌, if◌then◌else◌}
+use Rattle.std.proofs.Common.{arith, sym, subst, inl, inr, ap, ◌≡◌}
+use Rattle.std.proofs.lemmas.Bool.{cases_lt, le-leb}
+use Rattle.byte_ranges.specs.Ranges.{SameOutside, overwritten}
 use Rattle.byte_ranges.proofs.RangeLaws.{SameOutside-refl}
 use Rattle.disk_face.specs.Counts.{last, counted}
 use Rattle.disk_face.specs.Images.{Unsynced, IsImage}
 use Rattle.disk_face.proofs.ImageLaws.{image_with_range, image_with_length, image_synced, image_after_range, image_after_length}
 use Rattle.disk_face.specs.Moments.{Elapses, Follows, NoMore, Only, ResizedImage}
-use Rattle.disk_history.specs.Changes.{RecordedCall, Stamped, during, left_by}
+use Rattle.disk_history.specs.Changes.{RecordedCall, Stamped, during, left_by, changed}
 use Rattle.disk_history.specs.Changes.RecordedCall.{Wrote, Sized, Synced}
 use Rattle.disk_history.specs.Lawful.{present_is_image}
 use Rattle.disk_history.specs.Histories.{History, file_of, unsynced_of, MayLeave, done, undone, LeftBefore, LeftSince, EndedBy, history_state}
@@ -132,3 +132,10 @@ Only_sync h image is = image_synced (file_of h) image is
 pub NoMore_sync : (h : History) → NoMore (MayLeave h) (MayLeave (done Synced h))
 NoMore_sync h image is = subst (λ x. IsImage (unsynced_of h) x) (sym (image_synced (file_of h) image is))
     (present_is_image h.base h.calls)
+
+-- a write within the file
+pub changed_within : (file : List ℕ) (at : ℕ) (bytes : List ℕ) → at + length bytes ≤ length file
+    → overwritten file at bytes ≡ changed (Wrote at bytes) file
+changed_within file at bytes within =
+    ap (λ b. if b then overwritten file at bytes else file)
+    (sym (le-leb (at + length bytes) (length file) within))

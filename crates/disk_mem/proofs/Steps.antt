@@ -7,7 +7,7 @@ use Rattle.disk_face.specs.Counts.{last, counted}
 use Rattle.disk_history.specs.Changes.{RecordedCall, Stamped, changed, content_after}
 use Rattle.disk_history.specs.Changes.RecordedCall.{Wrote}
 use Rattle.disk_history.specs.Histories.{EndedBy}
-use Rattle.disk_history.proofs.HistoryLaws.{EndedBy_later}
+use Rattle.disk_history.proofs.HistoryLaws.{EndedBy_later, changed_within}
 
 -- a call that found no memory left the record as it was
 pub holds_undone : (base : List ℕ) {file : List ℕ} {calls now : List Stamped} {turn next : ℕ}
@@ -31,10 +31,3 @@ holds_done base change {file} {new} {calls} {now} {turn} {next} is fits more doe
     EndedBy_later turn next calls (omega (arith, is, fits)) ended,
   ),
 )
-
--- a write within the file
-pub changed_within : (file : List ℕ) (at : ℕ) (bytes : List ℕ) → at + length bytes ≤ length file
-    → overwritten file at bytes ≡ changed (Wrote at bytes) file
-changed_within file at bytes within =
-    ap (λ b. if b then overwritten file at bytes else file)
-    (sym (le-leb (at + length bytes) (length file) within))

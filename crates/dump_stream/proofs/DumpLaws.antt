@@ -27,51 +27,9 @@ use Rattle.dump_stream.specs.Dumps.{dump_line}
 use Rattle.dump_stream.specs.Dumping.{AreSizes, read_entry, sizes_at}
 use Rattle.dump_stream.proofs.PutLaws.{spot_of_entry}
 use Rattle.dump_stream.proofs.SumLaws.{are_sizes}
+use Rattle.placement_model.proofs.EntryLaws.{entries-read_at, len-read_at}
 
 -- ---- the entries of the map that a file gives
-
--- entries stay in order under the same names
-below_same : (base : ℕ) (file k : List ℕ) (es : List (List ℕ × Spot))
-    → below_all name_cmp k (map (read_entry base file) es) ≡ below_all name_cmp k es
-below_same base file k [] = refl
-below_same base file k (e ∷ es) = ap (λ (b : Bool). is_lt (name_cmp k e.0) && b) (below_same base file k es)
-
-sorted_same : (base : ℕ) (file : List ℕ) (es : List (List ℕ × Spot))
-    → fin.is_sorted name_cmp (map (read_entry base file) es) ≡ fin.is_sorted name_cmp es
-sorted_same base file [] = refl
-sorted_same base file (e ∷ es) =
-    λ i. below_same base file e.0 es i && sorted_same base file es i
-
-found_same : (base : ℕ) (file q : List ℕ) (es : List (List ℕ × Spot))
-    → find name_cmp q (map (read_entry base file) es) ≡ option_map (object_at base file) (find name_cmp q es)
-found_same base file q [] = refl
-found_same base file q (e ∷ es) =
-    ap (cond (same_name q e.0) (Some (object_at base file e.1))) (found_same base file q es)
-    ∙ through (same_name q e.0) (find name_cmp q es)
-  where
-    through : (b : Bool) (o : Option Spot) → cond b (Some (object_at base file e.1))
-        (option_map (object_at base file) o) ≡ option_map (object_at base file) (cond b (Some e.1) o)
-    through true o = refl
-    through false o = refl
-
-pub entries_of_file : (base : ℕ) (file : List ℕ) (spots : Spots) → AreNamed spots
-    → fin.entries (read_at base file spots) ≡ map (read_entry base file) (fin.entries spots)
-entries_of_file base file spots named =
-    let es = map (read_entry base file) (fin.entries spots) in
-    let sorted : T (fin.is_sorted name_cmp es) = subst T (sym (sorted_same base file (fin.entries spots)))
-    (fin.entries_sorted spots) in
-    let same : read_at base file spots ≡ fin.from_sorted es =
-    fin.same_map name_order names_differ (read_at base file spots) (fin.from_sorted es) (λ q.
-    get-read_at base file spots named q ∙ ap (option_map (object_at base file)) (fin.get-entries spots q)
-    ∙ sym (found_same base file q (fin.entries spots)) ∙ sym (fin.get-from_sorted name_cmp es q sorted)) in
-    ap fin.entries same ∙ fin.entries-from_sorted name_cmp es sorted
-
--- it has as many names
-count_of_file : (base : ℕ) (file : List ℕ) (spots : Spots) → AreNamed spots
-    → fin.len (read_at base file spots) ≡ fin.len spots
-count_of_file base file spots named = fin.len-entries (read_at base file spots)
-    ∙ ap length (entries_of_file base file spots named)
-    ∙ length-map (fin.entries spots) (read_entry base file) ∙ sym (fin.len-entries spots)
 
 -- ---- its volumes
 
@@ -90,7 +48,7 @@ volumes_of_file : (base : ℕ) (file : List ℕ) (spots : Spots) → AreNamed sp
     → volumes (read_at base file spots) ≡ volumes_of_sizes (sizes_at spots)
 volumes_of_file base file spots named within =
     ap (λ (es : List Entry). volumes_of_sizes (map length (map (λ (e : Entry). e.1) es)))
-    (entries_of_file base file spots named)
+    (entries-read_at base file spots named)
     ∙ ap volumes_of_sizes (sizes_same base file (fin.entries spots)
     (λ i e is. within e.0 e.1 (spot_of_entry spots i e.0 e.1 is)))
 
@@ -101,7 +59,7 @@ pub line_is : (C base : ℕ) (file line : List ℕ) (spots : Spots) → AreNamed
 line_is C base file line spots named within is =
     is
     ∙ ap (λ n. head_line C n (volumes_of_sizes (sizes_at spots)) ++ codes "\n")
-    (sym (count_of_file base file spots named))
+    (sym (len-read_at base file spots named))
     ∙ ap (λ (vs : List ℕ). head_line C (fin.len (read_at base file spots)) vs ++ codes "\n")
     (sym (volumes_of_file base file spots named within))
 

@@ -19,12 +19,7 @@ use Rattle.placement_model.specs.Reads.{object_at}
 use Rattle.placement_model.proofs.ReadLaws.{found_by_name}
 use Rattle.dump_stream.specs.Dumps.{object_text, objects_text}
 use Rattle.dump_stream.specs.Dumping.{Front, read_entry}
-
-pub name_short : (name : List ℕ) → IsName name → length name ≤ 63
-name_short name h =
-    let outer = and_parts (nat_lt 0 (length name) && nat_le (length name) 63)
-    (list_all is_name_byte name) h in
-    leb-true (length name) 63 (and_parts (nat_lt 0 (length name)) (nat_le (length name) 63) outer.0).1
+use Rattle.slot_codec.proofs.NameLemmas.{name_short}
 
 -- ---- one text after another
 

@@ -1,11 +1,12 @@
 -- A map has one dump, and no dump is the front of another one.
 use Rattle.std.specs.Prelude.{◌≡◌, ℕ, ◌^◌, ◌<◌, ◌≤◌, ◌&&◌, nat_le, nat_lt, List, [], ◌∷◌, ◌++◌, codes, length, refl, unwrap_or}
-use Rattle.std.proofs.Common.{arith, sym, ap, ◌∙◌, append_assoc}
+use Rattle.std.proofs.Common.{arith, sym, ap, ◌∙◌, append-nil, append_assoc}
 use Rattle.std.proofs.lemmas.Bool.{and_from, and_parts, le-leb, leb-true}
 use Rattle.std.proofs.lemmas.List.{append_cancel_left}
 use Rattle.std.specs.List.{AllByRecursion, list_all}
 use Rattle.std.specs.FinMap as fin
 use Rattle.size_class.specs.Classes.{width}
+use Rattle.size_class.specs.declared.TheConstants.{CLASSES, SIZE_MAX}
 use Rattle.slot_codec.specs.Names.{IsName, is_name_byte}
 use Rattle.map_model.specs.Maps.{Map}
 use Rattle.map_model.specs.Requests as request
@@ -14,26 +15,15 @@ use Rattle.map_model.specs.Weights.{Entry}
 use Rattle.segment_layout.specs.Books.{volumes}
 use Rattle.ask_text.specs.Inputs.{HasText}
 use Rattle.ask_text.specs.Words.{IsWord}
-use Rattle.ask_text.proofs.InputLaws.{text_one}
+use Rattle.ask_text.proofs.InputLaws.{text_one, named_word}
 use Rattle.dump_stream.specs.Heads.{head_line}
-use Rattle.dump_stream.specs.Dumps.{CanDump, IsObject, dump_text, object_text, objects_text, put_of}
+use Rattle.dump_stream.specs.Dumps.{CanDump, IsDumpOf, IsObject, dump_text, object_text, objects_text, put_of}
 use Rattle.dump_stream.proofs.HeadLaws.{head_of_map, head_one}
-
--- a name is a word
-pub word_of_name : (name : List ℕ) → IsName name → IsWord name
-word_of_name name h =
-    let outer = and_parts (nat_lt 0 (length name) && nat_le (length name) 63)
-    (list_all is_name_byte name) h in
-    let inner = and_parts (nat_lt 0 (length name)) (nat_le (length name) 63) outer.0 in
-    let short : length name ≤ 255 = omega (arith, leb-true (length name) 63 inner.1) in
-    and_from (nat_lt 0 (length name) && nat_le (length name) 255) (list_all is_name_byte name)
-    (and_from (nat_lt 0 (length name)) (nat_le (length name) 255) inner.0 (le-leb
-    (length name) 255 short)) outer.1
 
 -- the put of an object has a text
 pub object_has_text : (size_max : ℕ) (e : Entry) → size_max < 2 ^ 32 → IsObject size_max e
     → HasText (put_of e)
-object_has_text size_max e fits is = (word_of_name e.0 is.named, omega (arith, is.small, fits))
+object_has_text size_max e fits is = (named_word e.0 is.named, omega (arith, is.small, fits))
 
 name_put : Request → List ℕ
 name_put (request.change c) = c.name
@@ -90,3 +80,9 @@ dump_one C size_max m n s t few top fits a b h =
     let all = objects_one size_max (fin.entries m) (fin.entries n) s t fits
     (sym (fin.len-entries m) ∙ head.0 ∙ fin.len-entries n) a.each b.each behind in
     (fin.same_entries_map m n all.0, all.1)
+
+-- a text is the dump of one map
+pub one_map : (m n : Map) (text : List ℕ) → IsDumpOf CLASSES SIZE_MAX m text
+    → IsDumpOf CLASSES SIZE_MAX n text → m ≡ n
+one_map m n text a b = (dump_one CLASSES SIZE_MAX m n [] [] (omega arith) (omega arith) (omega arith) a.can
+    b.can (append-nil (dump_text CLASSES m) ∙ sym a.same ∙ b.same ∙ sym (append-nil (dump_text CLASSES n)))).0

@@ -19,6 +19,7 @@ use Rattle.extent_table.specs.Extents.{Spots, Extents, IsTable, digest_or_zeros,
 use Rattle.extent_table.specs.Rising.{records_of-rise}
 use Rattle.extent_table.proofs.ExtentLaws.{records_of-all, records_of-few, records_of-nth}
 use Rattle.extent_table.proofs.MapLemmas.{tie_of}
+use Rattle.slot_codec.proofs.OrderLemmas.{not_tied}
 
 plain_rows : (digests : Digests) (es : List (List ℕ × Spot))
     → map plain (map (with_digest digests) (map record_of es)) ≡ map record_of es
@@ -106,11 +107,6 @@ rolled-seen version e table =
 
 -- ---- one name more, behind all others
 
-apart : (o : Ordering) → is_lt o ≡ true → is_eq o ≡ false
-apart Less low = refl
-apart Equal low = absurd (cc)
-apart Greater low = absurd (cc)
-
 -- an earlier record has the digest that it had
 earlier : (digests : Digests) (name digest : List ℕ) (rs : List Record)
     → ((i : ℕ) (r : Record) → slice_get rs i ≡ Some r → is_lt (name_cmp r.name name) ≡ true)
@@ -119,7 +115,7 @@ earlier digests name digest [] low = refl
 earlier digests name digest (r ∷ rs) low =
     let same : fin.get (fin.insert digests name digest) r.name ≡ fin.get digests r.name =
     fin.get-insert nat_list_cmp_total digests name digest r.name
-    ∙ ap (λ b. cond b (Some digest) (fin.get digests r.name)) (apart _ (low 0 r refl)) in
+    ∙ ap (λ b. cond b (Some digest) (fin.get digests r.name)) (not_tied _ (low 0 r refl)) in
     let rest = earlier digests name digest rs (λ i s is. low (suc i) s is) in
     λ i. record r { digest = digest_or_zeros (same i) } ∷ rest i
 

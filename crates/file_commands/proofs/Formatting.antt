@@ -12,6 +12,7 @@ use Rattle.slot_pair.specs.Formats.{HasFirstTable, IsNoStoreOrEmpty, formatted_f
 use Rattle.file_commands.specs.Formatting.{Formats, IsEmptyStore, IsFormatted, IsNoneOrEmpty}
 use Rattle.dump_stream.proofs.FirstLaws.{first_opens}
 use Rattle.file_commands.proofs.EmptyLaws.{none_or_empty}
+use Rattle.disk_face.proofs.FrameLaws.{untouched}
 
 -- an empty file that rests leaves no bytes, which are no store
 rests_empty : (s : State) → length s.file ≡ 0 → Rests s → Only [] s.may_leave
@@ -42,17 +43,6 @@ formats_now {a} {b} k names done empty stopped leaves formatted = record {
   images = λ rests. Leaves-weaken (IsNoneOrEmpty k names) (λ image is. none_or_empty k names image is)
       (leaves (rests_empty a empty rests));
   formatted = formatted;
-}
-
-pub untouched : {a b : State} → Unchanged a b → Untouched a b
-untouched same = record {
-  same_file = same.same_file;
-  images = same.images;
-  since = same.since;
-  same_turn = same.same_turn;
-  later = same.later;
-  told = same.stays.told;
-  images_told = same.stays.images_told;
 }
 
 pub formats_later : {a b c : State} (k names : ℕ) (done : Type 0) → Untouched a b → IsTrue a.tells

@@ -8,6 +8,7 @@ use Rattle.byte_ranges.specs.Lists.{counting_from}
 use Rattle.segment_layout.proofs.ApartLaws.{ArePairsApart, apart_sum}
 use Rattle.segment_layout.proofs.BookLaws.{sum_by-filter}
 use Rattle.std.proofs.lemmas.Option.{slice_get-get_or}
+use Rattle.segment_layout.proofs.SumLaws.{sum_by_same_places}
 
 pub contains_here : {X : Type 0} (x : X) (xs : List X) → Contains (x ∷ xs) x
 contains_here x xs = (0, omega arith, refl)
@@ -85,18 +86,6 @@ pub sum_by_more_in : {X : Type 0} (f g : X → ℕ) (m : X) (n : ℕ) (xs : List
 sum_by_more_in f g m n xs has more each =
     more_at m f g n has.0 xs has.1 (omega (arith, more, ap f has.2, ap g has.2)) each
 
-same_past : {X : Type 0} (d : X) (f g : X → ℕ) (xs : List X)
-    → ((i : ℕ) → i < length xs → f (slice_index_or xs i d) ≡ g (slice_index_or xs i d))
-    → sum_by f xs ≡ sum_by g xs
-same_past d f g [] each = refl
-same_past d f g (x ∷ xs) each = omega (
-  arith,
-  sum_by-cons f x xs,
-  sum_by-cons g x xs,
-  each 0 (omega arith),
-  same_past d f g xs (λ i h. each (suc i) (omega (arith, h))),
-)
-
 -- two functions that differ at one place
 pub sum_by_one_place : {X : Type 0} (d : X) (f g : X → ℕ) (k : ℕ) (xs : List X) → k < length xs
     → ((i : ℕ) → i < length xs → i ≢ k → f (slice_index_or xs i d) ≡ g (slice_index_or xs i d))
@@ -107,7 +96,7 @@ sum_by_one_place d f g zero (x ∷ xs) within same =
       arith,
       sum_by-cons f x xs,
       sum_by-cons g x xs,
-      same_past d f g xs (λ i h. same (suc i) (omega (arith, h)) (λ e. absurd (omega (arith, e)))),
+      sum_by_same_places d f g xs (λ i h. same (suc i) (omega (arith, h)) (λ e. absurd (omega (arith, e)))),
     )
 sum_by_one_place d f g (suc k) (x ∷ xs) within same =
     omega (

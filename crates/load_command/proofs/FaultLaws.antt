@@ -16,17 +16,7 @@ use Rattle.command_face.specs.declared.stop.StopReason.{StopReason}
 use Rattle.command_face.specs.declared.stop.StopReason.TheVariants as stop
 use Rattle.load_command.specs.Doing.{EndsAsLoad, reason_of}
 use Rattle.load_command.specs.Ends.{IsBegunAt, IsDone, IsJudged, LeavesAsItWas, LeavesFile, PutsBefore}
-
-pub untouched : {a b : State} → Unchanged a b → Untouched a b
-untouched same = record {
-  same_file = same.same_file;
-  images = same.images;
-  since = same.since;
-  same_turn = same.same_turn;
-  later = same.later;
-  told = same.stays.told;
-  images_told = same.stays.images_told;
-}
+use Rattle.disk_face.proofs.FrameLaws.{untouched}
 
 pub only_of : (f : LoadFault) → EndsAsLoad (Err (reason_of f))
 only_of (why.Line n) = tt

@@ -13,10 +13,10 @@ use Rattle.size_class.specs.declared.TheConstants.{CLASSES, SIZE_MAX}
 use Rattle.map_model.specs.Maps.{Map}
 use Rattle.dump_stream.specs.Dumps.{IsDumpOf, dump_text}
 use Rattle.dump_stream.specs.Placing.{laid_book}
-use Rattle.dump_stream.proofs.TextLaws.{dump_one}
+use Rattle.dump_stream.proofs.TextLaws.{dump_one, one_map}
 use Rattle.load_stream.specs.Causes.{HasCauses}
 use Rattle.load_stream.specs.Faults.{IsEarly}
-use Rattle.load_stream.specs.Loaded.{AnswersLoad, IsLoadImage, LeavesLoaded, LoadsWhole}
+use Rattle.load_stream.specs.Loaded.{AnswersLoad, LeavesLoad, LoadsWhole}
 use Rattle.load_stream.specs.Saved.{OpensFor}
 use Rattle.load_stream.specs.declared.fault.LoadFault.{LoadFault}
 use Rattle.command_face.specs.declared.stop.StopReason.{StopReason}
@@ -24,25 +24,18 @@ use Rattle.command_face.specs.declared.stop.StopReason.TheVariants as stop
 use Rattle.load_command.specs.Doing.{IsLoading, reason_of}
 use Rattle.load_command.specs.Ends.{loaded_line, read_of}
 use Rattle.load_command.specs.Loading.{HasLoaded}
-use Rattle.load_command.proofs.FaultLaws.{begun_of, causes_of, early_of, file_of, judged_of, not_taken, nothing_of, only_of, source_of, undone_of, untouched}
+use Rattle.load_command.proofs.FaultLaws.{begun_of, causes_of, early_of, file_of, judged_of, not_taken, nothing_of, only_of, source_of, undone_of}
+use Rattle.disk_face.proofs.FrameLaws.{untouched}
 
 -- What the load of the stream says.
 pub record LoadedBy (k names : ℕ) (a b : State) (from rest : SourceState)
     (result : Result (Unit {0}) LoadFault) : Type 0 where
   pub answers : IsTrue from.tells → AnswersLoad names from.left result
   pub whole : OnOk result (LoadsWhole names (read_of from rest) a b)
-  pub file : IsTrue a.tells → LeavesLoaded k names (read_of from rest) b.file result
-  pub images : IsTrue a.tells → Only [] a.may_leave → Leaves a b (IsLoadImage k names (read_of from rest))
-  pub rests : IsTrue a.tells → OnOk result (Rests b)
+  pub left : IsTrue a.tells → LeavesLoad k names (read_of from rest) a b result
   pub early : IsEarly result → Unchanged a b
   pub causes : HasCauses a b from rest result
   pub frame : KeepsDisk a b
-
--- a text is the dump of one map
-one_map : (m n : Map) (text : List ℕ) → IsDumpOf CLASSES SIZE_MAX m text → IsDumpOf CLASSES SIZE_MAX n text
-    → m ≡ n
-one_map m n text a b = (dump_one CLASSES SIZE_MAX m n [] [] (omega arith) (omega arith) (omega arith) a.can
-    b.can (append-nil (dump_text CLASSES m) ∙ sym a.same ∙ b.same ∙ sym (append-nil (dump_text CLASSES n)))).0
 
 -- an empty file that rests leaves no bytes
 pub rests_empty : (s : State) → length s.file ≡ 0 → Rests s → Only [] s.may_leave
@@ -56,7 +49,7 @@ module _ (k names : ℕ) (a b : State) (from rest : SourceState)
   has_loaded by told =
       let w = by.whole in
       let opened : IsTrue a.tells → OpensFor k names b.file w.objects (laid_book w.objects) = λ t.
-      let o = by.file t in
+      let o = (by.left t).file in
       subst (λ (m : Map). OpensFor k names b.file m (laid_book m))
       (one_map o.objects w.objects from.left (o.dump told) (w.dump told)) o.opens in
       record {
@@ -66,7 +59,7 @@ module _ (k names : ℕ) (a b : State) (from rest : SourceState)
         ended = w.ended told;
         opens = opened;
         images = λ t image may. subst (λ (f : List ℕ). OpensFor k names f w.objects (laid_book w.objects))
-            (sym (by.rests t image may)) (opened t);
+            (sym ((by.left t).rests image may)) (opened t);
         calls = w.made;
       }
 
@@ -91,8 +84,8 @@ module _ (k names : ℕ) (a b : State) (from rest : SourceState)
         judged = by.answers;
         puts = puts;
         untouched = λ no. absurd no;
-        file = λ t none. by.file t;
-        crash = λ t none rests. by.images t (rests_empty a none rests);
+        file = λ t none. (by.left t).file;
+        crash = λ t none rests. (by.left t).images (rests_empty a none rests);
         loaded = λ t done. has_loaded by t;
         no_turn_back = by.frame.no_turn_back;
         told = by.frame.stays.told;
@@ -125,8 +118,8 @@ module _ (k names : ℕ) (a b : State) (from rest : SourceState)
         judged = by.answers;
         puts = puts;
         untouched = λ no. absurd no;
-        file = λ t none. by.file t;
-        crash = λ t none rests. by.images t (rests_empty a none rests);
+        file = λ t none. (by.left t).file;
+        crash = λ t none rests. (by.left t).images (rests_empty a none rests);
         loaded = λ t done. has_loaded by t;
         no_turn_back = by.frame.no_turn_back;
         told = by.frame.stays.told;
@@ -169,8 +162,8 @@ module _ (k names : ℕ) (a b : State) (from rest : SourceState)
     judged = λ t. judged_of names from.left f (by.answers t);
     puts = λ t. nothing_of o f;
     untouched = λ is. untouched (by.early (early_of f is));
-    file = λ t none. file_of k names (read_of from rest) b.file f (by.file t);
-    crash = λ t none rests. by.images t (rests_empty a none rests);
+    file = λ t none. file_of k names (read_of from rest) b.file f (by.left t).file;
+    crash = λ t none rests. (by.left t).images (rests_empty a none rests);
     loaded = λ t done. absurd (undone_of f done);
     no_turn_back = by.frame.no_turn_back;
     told = by.frame.stays.told;

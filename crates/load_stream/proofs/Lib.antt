@@ -3,7 +3,7 @@ mod BodyLaws
 mod CauseLaws
 mod FillLaws
 mod FirstLaws
-mod ImageLaws
+pub mod ImageLaws
 mod LaidLaws
 mod LoadLaws
 mod LoopLaws

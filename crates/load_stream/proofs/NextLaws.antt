@@ -9,10 +9,9 @@ use Rattle.ask_text.specs.Asks.{IsAsk, line_of}
 use Rattle.ask_text.specs.Inputs.{BeginsNone}
 use Rattle.ask_text.proofs.AskLaws.{lacks-line, line_one}
 use Rattle.ask_text.proofs.Cuts.{cut_once}
-use Rattle.ask_lines.proofs.LineLaws.{text_is}
 use Rattle.dump_stream.specs.Dumps.{object_text, put_of}
-use Rattle.dump_stream.proofs.TextLaws.{word_of_name}
 use Rattle.load_stream.specs.Steps.{HasNoObject}
+use Rattle.ask_text.proofs.InputLaws.{named_word, text_is}
 
 -- the put of an object is its line, and then its bytes and a newline
 pub put_text : (e : Entry) (behind : List ℕ) → object_text e ++ behind
@@ -26,7 +25,7 @@ pub put_one : (a : Ask) (input now : List ℕ) → IsAsk a → input ≡ line_of
     → (a ≡ ask.Put e.0 (length e.1)) × (now ≡ e.1 ++ 10 ∷ behind)
 put_one a input now asks is e behind named small h =
     let put : Ask = ask.Put e.0 (length e.1) in
-    let can : IsAsk put = (word_of_name e.0 named, small) in
+    let can : IsAsk put = (named_word e.0 named, small) in
     let cut = cut_once 10 (line_of a) (line_of put) now (e.1 ++ 10 ∷ behind) (lacks-line a asks)
     (lacks-line put can) (sym is ∙ h ∙ put_text e behind) in
     (line_one a put asks can cut.0, cut.1)
@@ -39,4 +38,4 @@ no_put a input now asks is none e behind named small h =
 
 -- nor where no request does
 pub no_request : (input : List ℕ) → BeginsNone input → HasNoObject input
-no_request input none e behind named small h = none (put_of e) behind (word_of_name e.0 named, small) h
+no_request input none e behind named small h = none (put_of e) behind (named_word e.0 named, small) h

@@ -6,9 +6,9 @@ use Rattle.map_model.specs.Weights.{Entry}
 use Rattle.ask_text.specs.declared.ask.Ask.TheVariants as line
 use Rattle.ask_text.specs.Asks.{line_of}
 use Rattle.dump_stream.specs.Dumps.{object_text}
-use Rattle.dump_stream.proofs.TextLaws.{word_of_name}
 use Rattle.load_stream.specs.Steps.{NoneStands, StandsNext}
 use Rattle.load_stream.proofs.NextLaws.{put_one, put_text}
+use Rattle.ask_text.proofs.InputLaws.{named_word}
 
 module _ (last : Option (List ℕ)) (volumes filled : List ℕ) (input mid : List ℕ) (name : List ℕ) (size : ℕ)
     (named : IsName name) (small : size < 4294967296)
@@ -17,7 +17,7 @@ module _ (last : Option (List ℕ)) (volumes filled : List ℕ) (input mid : Lis
   same_line : (e : Entry) (behind : List ℕ) → StandsNext last volumes filled e.0 (length e.1)
       → input ≡ object_text e ++ behind
       → (line.Put name size ≡ line.Put e.0 (length e.1)) × (mid ≡ e.1 ++ 10 ∷ behind)
-  same_line e behind s h = put_one (line.Put name size) input mid (word_of_name name named, small) is e behind
+  same_line e behind s h = put_one (line.Put name size) input mid (named_word name named, small) is e behind
       s.named (omega (arith, s.small)) h
 
   same_size : (e : Entry) → line.Put name size ≡ line.Put e.0 (length e.1) → size ≡ length e.1

@@ -1,7 +1,8 @@
 -- What a load answers of an input, and what the file and its images are then.
-use Rattle.std.specs.Prelude.{◌≡◌, ◌⊎◌, ◌<◌, ◌≤◌, ℕ, ◌+◌, zero, suc, List, [], Result, Ok, Err, IsTrue, length}
+use Rattle.std.specs.Prelude.{◌≡◌, ◌⊎◌, ◌<◌, ◌≤◌, ℕ, ◌+◌, zero, suc, List, [], Result, Ok, Err, IsTrue, OnOk, length}
 use Rattle.std.specs.FinMap as fin
 use Rattle.disk_face.specs.Counts.{counted}
+use Rattle.disk_face.specs.Moments.{Leaves, Only, Rests}
 use Rattle.disk_face.specs.States.{State}
 use Rattle.size_class.specs.declared.TheConstants.{CLASSES, SIZE_MAX}
 use Rattle.slot_codec.specs.Spelling.{head_len}
@@ -99,3 +100,11 @@ LeavesLoaded k names x file (Err (why.TooMany n)) = length file ≡ 0
 LeavesLoaded k names x file (Err why.NoMemory) = length file ≡ 0
 LeavesLoaded k names x file (Err why.Disk) = IsLoadImage k names x file
 LeavesLoaded k names x file (Err why.Source) = (length file ≡ 0) ⊎ OpensEmpty k names file
+
+-- What the file is at the end of a load, and each image that a crash may leave meanwhile. Done, the file is
+-- the one image that is left.
+pub record LeavesLoad (k names : ℕ) (x : Passed) (first now : State) (result : Result Unit LoadFault)
+    : Type 0 where
+  pub file : LeavesLoaded k names x now.file result
+  pub images : Only [] first.may_leave → Leaves first now (IsLoadImage k names x)
+  pub rests : OnOk result (Rests now)

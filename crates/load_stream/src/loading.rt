@@ -4,7 +4,7 @@ ghost use Rattle.disk_face.specs.{Frames.{Unchanged}, Moments.{Leaves, Only, Res
 ghost use Rattle.slot_codec.specs.Readable.{IsSuperBlock};
 ghost use Rattle.slot_pair.specs.Formats.{block_for};
 ghost use Rattle.load_stream.specs.declared.fault.LoadFault.TheVariants as why;
-ghost use Rattle.load_stream.specs.{Causes.{HasCauses}, Faults.{IsEarly, IsLineOrDevice}, Loaded.{AnswersLoad, IsLoadImage, LeavesLoaded, LoadsWhole}, Saved.{IsNoneOrRead, IsPlanFor, LeavesNew, ReadsBody, StopsBody}, Steps.{IsStart, passed}};
+ghost use Rattle.load_stream.specs.{Causes.{HasCauses}, Faults.{IsEarly, IsLineOrDevice}, Loaded.{AnswersLoad, LeavesLoad, LoadsWhole}, Saved.{IsNoneOrRead, IsPlanFor, LeavesNew, ReadsBody, StopsBody}, Steps.{IsStart, passed}};
 
 use crate::LoadFault;
 use crate::begin::{read_plan, start};
@@ -36,13 +36,9 @@ pub fn load<D: Disk, I: Source>(
     ensures whole { OnOk result (LoadsWhole names
         (passed (I.state input.old).tells (I.state input.old).left (I.state input.new).left)
         (D.state disk.old) (D.state disk.new)) }
-    ensures file { IsTrue (D.state disk.old).tells → LeavesLoaded k names
+    ensures left { IsTrue (D.state disk.old).tells → LeavesLoad k names
         (passed (I.state input.old).tells (I.state input.old).left (I.state input.new).left)
-        (D.state disk.new).file result }
-    ensures images { IsTrue (D.state disk.old).tells → Only [] (D.state disk.old).may_leave
-        → Leaves (D.state disk.old) (D.state disk.new) (IsLoadImage k names
-        (passed (I.state input.old).tells (I.state input.old).left (I.state input.new).left)) }
-    ensures rests { IsTrue (D.state disk.old).tells → OnOk result (Rests (D.state disk.new)) }
+        (D.state disk.old) (D.state disk.new) result }
     ensures early { IsEarly result → Unchanged (D.state disk.old) (D.state disk.new) }
     ensures causes { HasCauses (D.state disk.old) (D.state disk.new) (I.state input.old)
         (I.state input.new) result }

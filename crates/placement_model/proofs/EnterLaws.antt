@@ -31,6 +31,7 @@ use Rattle.placement_model.proofs.SegmentLaws.{lies_parts}
 use Rattle.placement_model.proofs.SpotSumLaws.{records_sum-insert}
 use Rattle.placement_model.proofs.ChangeLaws.{after, charged_below, in_grid, in_row, more_in_cell, room, same_live, within_from}
 use Rattle.placement_model.specs.Changes.{charged, charged_spot}
+use Rattle.slot_codec.proofs.OrderLemmas.{not_tied}
 
 -- ---- each record, name by name
 
@@ -79,18 +80,13 @@ each_inserted P spots name s named is new old i low =
       | inr there ↦ by_name P spots named old r.name o.spot there.1
     ])
 
-less_not_same : (o : Ordering) → is_lt o ≡ true → is_eq o ≡ false
-less_not_same Less h = refl
-less_not_same Equal h = absurd (cc)
-less_not_same Greater h = absurd (cc)
-
 -- records at two places have two names
 pub names_of_places : (spots : Spots) (h i : ℕ) → h < i → i < length (records_of spots)
     → same_name (slice_index_or (records_of spots) h no_record).name
     (slice_index_or (records_of spots) i no_record).name ≡ false
 names_of_places spots h i less low =
     let rs = records_of spots in
-    less_not_same _ ((records_of-rise spots).rising h i (slice_index_or rs h no_record)
+    not_tied _ ((records_of-rise spots).rising h i (slice_index_or rs h no_record)
     (slice_index_or rs i no_record) less (slice_get-get_or rs h no_record (omega (arith, less, low)))
     (slice_get-get_or rs i no_record low))
 

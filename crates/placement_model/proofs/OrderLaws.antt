@@ -19,11 +19,7 @@ use Rattle.extent_table.proofs.ExtentLaws.{records_of-all}
 use Rattle.placement_model.specs.Reads.{AreNamed}
 use Rattle.placement_model.proofs.ReadLaws.{AreNamed-insert}
 use Rattle.placement_model.specs.Orders.{spot_of, IsUpTo, SetSoFar}
-
-is_less : (o : Ordering) → is_lt o ≡ true → o ≡ Less
-is_less Less h = refl
-is_less Equal h = absurd (cc)
-is_less Greater h = absurd (cc)
+use Rattle.slot_codec.proofs.OrderLemmas.{is_less}
 
 module _ {X : Type 0} where
   found_head : (e : List ℕ × X) (es : List (List ℕ × X)) → find name_cmp e.0 (e ∷ es) ≡ Some e.1

@@ -24,6 +24,7 @@ use Rattle.extent_table.specs.Extents.{Spots, record_of, records_of}
 use Rattle.extent_table.proofs.ExtentLaws.{records_of-all}
 use Rattle.extent_table.specs.Rising.{below_each, left, right, of_mapped}
 use Rattle.placement_model.specs.Reads.{object_at, read_at, AreNamed, LiesApart, EndWithin, AllLieApart}
+use Rattle.slot_codec.proofs.OrderLemmas.{not_tied_back}
 
 -- ---- by name
 
@@ -186,11 +187,6 @@ read_at-put base place file object spots name named is fits within apart =
 
 -- ---- records and spots
 
-not_tied : (r s : Ordering) → s ≡ ordering_reverse r → is_lt r ≡ true → is_eq s ≡ false
-not_tied Less s back low = ap is_eq back
-not_tied Equal s back low = absurd (cc)
-not_tied Greater s back low = absurd (cc)
-
 -- an entry is found by its name
 pub found_by_name : (es : List (List ℕ × Spot)) (i : ℕ) (e : List ℕ × Spot) → T (fin.is_sorted name_cmp es)
     → slice_get es i ≡ Some e → find name_cmp e.0 es ≡ Some e.1
@@ -204,7 +200,7 @@ found_by_name (x ∷ xs) (suc i) e h is =
     let lower : is_lt (name_cmp x.0 e.0)
     ≡ true = below_each name_cmp (λ k. true) x.0 xs i e (first (fin.is_sorted name_cmp xs) h) is in
     ap (λ b. cond b (Some x.1) (find name_cmp e.0 xs))
-    (not_tied (name_cmp x.0 e.0) (name_cmp e.0 x.0) (nat_list_cmp_total.antisymm e.0 x.0) lower)
+    (not_tied_back (name_cmp x.0 e.0) (name_cmp e.0 x.0) (nat_list_cmp_total.antisymm e.0 x.0) lower)
     ∙ found_by_name xs i e (right (below_all name_cmp x.0 xs) (fin.is_sorted name_cmp xs) h) is
   where
     first : (rest : Bool) → T (below_all name_cmp x.0 xs && rest) → T (below_all name_cmp x.0 xs)

@@ -32,3 +32,7 @@ EndWithin base file spots = (name : List ℕ) (s : Spot) → fin.get spots name 
 -- no object has a byte in common with n bytes at a place
 abbrev pub AllLieApart : ℕ → ℕ → Spots → Type 0
 AllLieApart place n spots = (name : List ℕ) (s : Spot) → fin.get spots name ≡ Some s → LiesApart place n s
+
+-- an entry of a map to spots, with the bytes that a file gives there
+abbrev pub read_entry : ℕ → List ℕ → List ℕ × Spot → List ℕ × List ℕ
+read_entry base file e = (e.0, object_at base file e.1)

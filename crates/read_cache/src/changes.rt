@@ -12,7 +12,7 @@ use slot_codec::Name;
 use store_core::{Done, Refusal};
 
 impl<const C: usize> Cached<C> {
-    ghost use Rattle.store_core.specs.{Answers.{done_reply, is_disk_fault, refused_by, reply_of}, Changes.{NothingChanged}, Changing.{IsChange}, Keeps.{AnswersKeep, KeepsNow}};
+    ghost use Rattle.store_answers.specs.{Answers.{done_reply, is_disk_fault, refused_by, reply_of}, Changing.{IsChange}, Keeps.{IsKeep}};
     ghost use Rattle.store_model.specs.{Connection.{IsConnected, IsOver, limits_of, state_of}, Quiet.{del_of, put_of}, States.{Step}, Stores.{IsStore}};
     ghost use Rattle.read_cache.specs.{Coherence.{IsCoherent}, Lists.{emptied, without}};
 
@@ -61,11 +61,7 @@ impl<const C: usize> Cached<C> {
         requires ready { IsTrue (D.state disk.old).is_ready }
         requires over { IsConnected C self.old.store (D.state disk.old) }
         requires coherent { IsCoherent self.old.store self.old.list.pairs (D.state disk.old) }
-        ensures answer { AnswersKeep (refused_by self.old.store ask.keep) result }
-        ensures refused { IsSome (refused_by self.old.store ask.keep)
-            → NothingChanged self.old.store self.new.store (D.state disk.old) (D.state disk.new) }
-        ensures kept { IsNone (refused_by self.old.store ask.keep)
-            → KeepsNow C self.old.store self.new.store (D.state disk.old) (D.state disk.new) result }
+        ensures keep { IsKeep C self.old.store self.new.store (D.state disk.old) (D.state disk.new) result }
         ensures step { self.old.store.is_broken ≡ false → IsTrue (D.state disk.old).tells
             → IfSome (reply_of done_reply result) (λ reply. Step (limits_of self.old.store)
             (state_of self.old.store (D.state disk.old).file) ask.keep reply

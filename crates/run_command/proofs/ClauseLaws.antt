@@ -13,8 +13,9 @@ use Rattle.ask_text.specs.declared.ends.End.{End}
 use Rattle.ask_text.specs.declared.ends.End.TheVariants as ends
 use Rattle.command_face.specs.declared.status.TheConstants.{DISK_FAILED, DONE, FAULTY_REQUEST, NO_FILE, NO_MEMORY, NO_STORE, SINK_FAILED, SOURCE_FAILED, TOO_MANY_REQUESTS}
 use Rattle.command_face.specs.Outcomes.{status_at}
-use Rattle.run_command.specs.Sessions.{IsUnserved, end_of}
+use Rattle.run_command.specs.Sessions.{IsUnserved}
 use Rattle.command_face.specs.declared.stop.StopReason.{StopReason}
+use Rattle.served_file.specs.Ends.{end_of}
 
 -- what the session's devices are once it ended
 pub record SessionKeeps (before now : Outside) (end : Result (Unit {0}) StopReason) (kept_turn : ℕ)

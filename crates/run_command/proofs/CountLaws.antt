@@ -18,23 +18,14 @@ use Rattle.command_face.specs.declared.status.TheConstants.{TOO_MANY_REQUESTS}
 use Rattle.command_face.specs.Refusing.{stop_of}
 use Rattle.run_command.specs.Headline.{HasMounted}
 use Rattle.command_face.specs.Outcomes.{status_at, status_of}
-use Rattle.run_command.specs.Sessions.{HasCounted, OpenRunSteps, RunSteps, end_of, ended_as, outcome_of, unserved}
+use Rattle.run_command.specs.Sessions.{HasCounted, OpenRunSteps, RunSteps, ended_as, outcome_of, unserved}
 use Rattle.command_face.specs.declared.stop.StopReason.{StopReason}
 use Rattle.command_face.specs.declared.stop.StopReason.TheVariants as stop
 use Rattle.run_command.specs.declared.run.SessionEnd.{SessionEnd}
 use Rattle.run_command.proofs.ClauseLaws.{session_keeps}
 use Rattle.command_face.proofs.UnopenedLaws.{not_status}
-
--- there are as many replies as requests
-chain_long : (limits : Limits) (s : State) (rs : List Request) (replies : List Reply) (states : List State)
-    → Chain limits s rs replies states → length replies ≡ length rs
-chain_long limits s [] [] [] chain = refl
-chain_long limits s (r ∷ rs) (reply ∷ replies) (t ∷ states) chain =
-    let rest = chain_long limits t rs replies states chain.1 in omega (arith, rest)
-chain_long limits s [] [] (t ∷ states) chain = absurd (chain)
-chain_long limits s [] (reply ∷ replies) states chain = absurd (chain)
-chain_long limits s (r ∷ rs) [] states chain = absurd (chain)
-chain_long limits s (r ∷ rs) (reply ∷ replies) [] chain = absurd (chain)
+use Rattle.ask_session.proofs.GrowingLaws.{chain_long}
+use Rattle.served_file.specs.Ends.{end_of}
 
 -- no more are kept than were answered
 kept_within : (done kept : ℕ) (replies : List Reply) → kept ≤ done → done + length replies ≤ last

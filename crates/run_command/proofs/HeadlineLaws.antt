@@ -39,7 +39,7 @@ use Rattle.served_file.specs.Served.{found_with}
 use Rattle.run_command.specs.Headline.{HasMounted, HowFar, RunHolds}
 use Rattle.command_face.specs.Mounting.{mounted}
 use Rattle.command_face.specs.Outcomes.{PutsLast, line_at, status_at}
-use Rattle.run_command.specs.Sessions.{IsUnbegun, IsUnopened, OpenRunSteps, RunSteps, RunsMounted, ended_as, end_of, outcome_of, unserved}
+use Rattle.run_command.specs.Sessions.{IsUnbegun, IsUnopened, OpenRunSteps, RunSteps, RunsMounted, ended_as, outcome_of, unserved}
 use Rattle.command_face.specs.declared.stop.StopReason.{StopReason}
 use Rattle.command_face.specs.declared.stop.StopReason.TheVariants as stop
 use Rattle.run_command.specs.declared.run.SessionEnd.{SessionEnd}
@@ -56,6 +56,7 @@ use Rattle.served_file.proofs.FoundLaws.{found_start, found_starts, next_found}
 use Rattle.served_file.proofs.RefusedLaws.{WhyUnopened, why_refused}
 use Rattle.served_file.proofs.RefusedLaws.WhyUnopened.{disk, memory}
 use Rattle.disk_face.specs.Devices.{devices}
+use Rattle.served_file.specs.Ends.{end_of}
 
 -- the numbers of a session, with a status
 abbrev counts_of : ℕ → Sitting → Outcome

@@ -7,10 +7,10 @@ use Rattle.map_model.specs.Requests as ask
 use Rattle.map_model.specs.Requests.{Change, Refused, Reply, Request}
 use Rattle.segment_layout.specs.Books.{next_book}
 use Rattle.store_model.specs.States.{Chain, Limits, Served, State, Step, accepted, facts_of, refusal, served, served_change}
-use Rattle.store_model.proofs.RequestLaws.{served_by}
+use Rattle.store_model.proofs.RequestLaws.{served_by, served_sequence}
 use Rattle.ask_text.specs.Asks.{ask_of, line_of}
 use Rattle.ask_text.specs.Inputs.{Asks, BeginsNone, HasText, body_of, request_text}
-use Rattle.ask_text.proofs.InputLaws.{text_one}
+use Rattle.ask_text.proofs.InputLaws.{text_one, text_some}
 use Rattle.ask_serve.specs.Serving.{acknowledges}
 use Rattle.ask_session.specs.Runs.{last_kept, last_state}
 use Rattle.ask_serve.proofs.MakesLaws.{makes}
@@ -18,33 +18,6 @@ use Rattle.served_file.specs.Served.{IsKept, state_after}
 use Rattle.served_file.proofs.ShownLaws.{kept_later, now_kept, now_book, replied_as}
 
 -- ---- what a request leaves
-
-change_sequence : (limits : Limits) (s : State) (c : Change) (q : Bool)
-    → (next_book limits.k s.map s.book c).quiet ≡ q → (served_change limits s c).state.sequence ≡ s.sequence
-change_sequence limits s c true is = rw is refl
-change_sequence limits s c false is = rw is refl
-
-accepted_sequence : (limits : Limits) (s : State) (r : Request)
-    → (accepted limits s r).state.sequence ≡ s.sequence
-accepted_sequence limits s (ask.change c) = change_sequence limits s c
-    (next_book limits.k s.map s.book c).quiet refl
-accepted_sequence limits s (ask.get name) = refl
-accepted_sequence limits s (ask.old name) = refl
-accepted_sequence limits s ask.keep = refl
-accepted_sequence limits s ask.back = refl
-accepted_sequence limits s ask.list = refl
-accepted_sequence limits s ask.stat = refl
-
--- the state that is served has the sequence of before, which a step then raises
-pub served_sequence : (limits : Limits) (s : State) (r : Request)
-    → (served limits s r).state.sequence ≡ s.sequence
-served_sequence limits s r = by (refusal limits (facts_of s r) r) refl
-  where
-    by : (o : Option Refused) → refusal limits (facts_of s r) r ≡ o
-        → (served limits s r).state.sequence ≡ s.sequence
-    by None is = ap (λ (x : Served). x.state.sequence) (served_by limits s r None is)
-        ∙ accepted_sequence limits s r
-    by (Some w) is = ap (λ (x : Served). x.state.sequence) (served_by limits s r (Some w) is)
 
 -- ---- requests
 
@@ -100,17 +73,9 @@ none_next (r ∷ others) rest end asks none =
     absurd (none r (flat_map request_text others ++ end) asks.each.0
     (asks.whole ∙ append_assoc (request_text r) (flat_map request_text others) end))
 
-text_long : (r : Request) → 1 ≤ length (request_text r)
-text_long r =
-    let all : length (request_text r) ≡ length (line_of (ask_of r) ++ codes "\n") + length (body_of r) =
-    length-append (line_of (ask_of r) ++ codes "\n") (body_of r) in
-    let front : length (line_of (ask_of r) ++ codes "\n") ≡ length (line_of (ask_of r)) + 1 =
-    length-append (line_of (ask_of r)) (codes "\n") in
-    omega (arith, all, front)
-
 pub begins_none : BeginsNone []
 begins_none r rest text is =
-    omega (arith, text_long r, length-append (request_text r) rest, ap (λ (xs : List ℕ). length xs) is)
+    omega (arith, text_some r, length-append (request_text r) rest, ap (λ (xs : List ℕ). length xs) is)
 
 -- The checkpoint of the last state is that of the first, where none was acknowledged, or what stood after
 -- the last request that was acknowledged.

@@ -39,12 +39,13 @@ use Rattle.command_face.specs.declared.status.TheConstants.{SINK_FAILED}
 use Rattle.command_face.specs.Outcomes.{PutsLast, line_at, status_at}
 use Rattle.command_face.specs.declared.stop.StopReason.{StopReason}
 use Rattle.command_face.specs.declared.outcome.Outcome.{Outcome}
-use Rattle.run_command.proofs.RunLists.{IsNext, Splits, next_is, served_sequence, splits}
+use Rattle.run_command.proofs.RunLists.{IsNext, Splits, next_is, splits}
 use Rattle.served_file.proofs.OpeningLaws.{Opened}
 use Rattle.served_file.proofs.OverLaws.{tight_over, next_over}
 use Rattle.disk_face.specs.Devices.{devices}
 use Rattle.run_command.proofs.SoFarLaws.{SoFar, View, view, newest, starts, ran_of, number, turn_c, numbered_c, long_c, told_c, told_now}
 use Rattle.run_command.proofs.FailedLaws as while_served
+use Rattle.store_model.proofs.RequestLaws.{served_sequence}
 
 module _ (h : SoFar) where
   open h use {t, m, b, requests, end, old, s, op, from, i1, out, o1, s1, c, n, told_source, ran, few}

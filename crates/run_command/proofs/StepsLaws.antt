@@ -25,12 +25,13 @@ use Rattle.ask_serve.specs.Outside.{Held, Outside, Seen, held, outside, outside_
 use Rattle.ask_text.specs.declared.ends.End.{End}
 use Rattle.ask_text.specs.declared.ends.End.TheVariants as ends
 use Rattle.command_face.specs.Outcomes.{EndsBy, status_at, status_of}
-use Rattle.run_command.specs.Sessions.{HasSession, IsUnserved, KeepsRun, OpenRunSteps, RunSteps, RunsMounted, end_of, outcome_of, unserved}
+use Rattle.run_command.specs.Sessions.{HasSession, IsUnserved, KeepsRun, OpenRunSteps, RunSteps, RunsMounted, outcome_of, unserved}
 use Rattle.command_face.specs.declared.stop.StopReason.TheVariants as stop
 use Rattle.run_command.specs.declared.run.SessionEnd.{SessionEnd}
 use Rattle.run_command.proofs.ClauseLaws.{SessionKeeps, session_keeps}
 use Rattle.command_face.proofs.UnopenedLaws.{status_unopened, not_status, disk_by, mount_untouched}
 use Rattle.served_file.proofs.RefusedLaws.{refused_unchanged, refuses}
+use Rattle.served_file.specs.Ends.{end_of}
 
 -- the devices, the mount, and the turn that is told
 pub record Whole (file : List ℕ) (before now : Outside) (same : Type 0) (e : SessionEnd) : Type 0 where

@@ -26,15 +26,7 @@ use Rattle.command_face.specs.declared.stop.StopReason.TheVariants as stop
 use Rattle.run_command.specs.declared.run.SessionEnd.{SessionEnd}
 use Rattle.command_face.specs.declared.outcome.Outcome.{Outcome}
 use Rattle.command_face.specs.declared.status.TheConstants.{DISK_FAILED, DONE, NO_FILE, NO_MEMORY, NO_STORE, SINK_FAILED, SOURCE_FAILED, TOO_MANY_REQUESTS}
-
--- how the program ends where a session ended so, after so many requests were answered
-abbrev pub end_of : End → ℕ → Result (Unit {0}) StopReason
-end_of ends.End done = Ok tt
-end_of ends.Line done = Err (stop.Line (counted done 1))
-end_of ends.Disk done = Err stop.Disk
-end_of ends.Source done = Err stop.Source
-end_of ends.Sink done = Err stop.Sink
-end_of ends.Budget done = Err stop.Budget
+use Rattle.served_file.specs.Ends.{end_of}
 
 -- the end of a session, and its three numbers
 abbrev pub ended_as : End → Sitting → SessionEnd

@@ -5,7 +5,7 @@ ghost use Rattle.store_model.specs.{Connection.{IsConnected}, Opened.{IsOpening}
 ghost use Rattle.ask_serve.specs.Outside.{held, seen_by};
 ghost use Rattle.command_face.specs.{Mounting.{IsMounted}, Refusing.{IsRefused}, Outcomes.{Ends}};
 ghost use Rattle.served_file.specs.Unserved.{NeverServed};
-ghost use Rattle.run_command.specs.{Headline.{RunPromise, is_session}, Sessions.{RunAlways, OpenRunSteps, RunSteps, end_of, ended_as, unserved}};
+ghost use Rattle.run_command.specs.{Headline.{RunPromise, is_session}, Sessions.{RunAlways, OpenRunSteps, RunSteps, ended_as, unserved}};
 ghost use Rattle.disk_face.specs.Devices.{devices};
 
 use ask_session::{End, Session};
@@ -13,6 +13,7 @@ use command_face::{
     DISK_FAILED, NO_FILE, NO_STORE, Outcome, StopReason, finish, mount_there, stop_of,
 };
 use disk_face::{Bay, Disk, Sink, Source};
+use served_file::end_of;
 use size_class::CLASSES;
 use std::alloc::Global;
 use store_core::Store;
@@ -150,19 +151,5 @@ fn ended_as(end: End, session: Session<CLASSES>) -> SessionEnd
         done,
         kept_done,
         kept_turn,
-    }
-}
-
-/// How the program ends where a session ended so, after so many requests were answered.
-fn end_of(end: End, done: u64) -> Result<(), StopReason>
-    ensures { result ≡ end_of end done }
-{
-    match end {
-        End::End => Ok(()),
-        End::Line => Err(StopReason::Line(done.saturating_add(1))),
-        End::Disk => Err(StopReason::Disk),
-        End::Source => Err(StopReason::Source),
-        End::Sink => Err(StopReason::Sink),
-        End::Budget => Err(StopReason::Budget),
     }
 }

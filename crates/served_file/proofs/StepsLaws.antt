@@ -10,7 +10,7 @@ use Rattle.disk_face.specs.States.{State}
 use Rattle.disk_face.specs.Streams.{SinkState}
 use Rattle.disk_face.specs.Writes.{KeepsDisk}
 use Rattle.disk_face.specs.declared.bay.Mounted.TheVariants.{Absent, There}
-use Rattle.disk_face.proofs.FrameLaws.{Untouched-then}
+use Rattle.disk_face.proofs.FrameLaws.{Untouched-then, keeps_then}
 use Rattle.size_class.specs.declared.TheConstants.{CLASSES, SIZE_MAX}
 use Rattle.table_rules.specs.Opening.{Opens}
 use Rattle.reopen.specs.Refusals.{RefusesToOpen}
@@ -144,7 +144,7 @@ module _ (file : List ℕ) (before now : Devices) (mount : AfterMount before.dis
 -- ---- the file was mounted
 
 -- no call failed before
-causes_since : (a b c : State) (out put : SinkState) (end : Result (Unit {0}) StopReason)
+pub causes_since : (a b c : State) (out put : SinkState) (end : Result (Unit {0}) StopReason)
     → b.faults ≡ a.faults → HasCausesAt b c out put end → HasCausesAt a c out put end
 causes_since a b c out put end calm is = record {
   later = omega (arith, calm, is.later);
@@ -154,18 +154,6 @@ causes_since a b c out put end calm is = record {
   sink_rose = is.sink_rose;
   sink_calm = is.sink_calm;
   sink_told = is.sink_told;
-}
-
--- what is kept by one call after another
-keeps_then : {a b c : State} → KeepsDisk a b → KeepsDisk b c → KeepsDisk a c
-keeps_then one more = record {
-  no_turn_back = omega (arith, one.no_turn_back, more.no_turn_back);
-  stays = record {
-    ready = more.stays.ready;
-    told = more.stays.told ∙ one.stays.told;
-    images_told = more.stays.images_told ∙ one.stays.images_told;
-    same_mount = more.stays.same_mount ∙ one.stays.same_mount;
-  };
 }
 
 module _ (file : List ℕ) (before now : Devices) (first : State) (mount : AfterMount before.disk first)
@@ -259,12 +247,7 @@ module _ {D : Type 0} (disk_of : D → State) (file : List ℕ) (does : Doing) (
           status = unopened_status is.fault end is.ended (status_unopened is.fault);
           nothing = is.nothing;
         })
-        | inr is ↦ inr (record {
-          store = is.store;
-          mid = is.mid;
-          fresh = is.opening.fresh;
-          done = is.done;
-        })
+        | inr is ↦ inr (search (is, is.opening))
       ]
 
   -- a file that isn't served ends the command as its first refusal says

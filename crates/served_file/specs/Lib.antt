@@ -1,4 +1,5 @@
 pub mod Always
+pub mod Ends
 pub mod Served
 pub mod Steps
 pub mod Unserved

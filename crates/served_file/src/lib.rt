@@ -1,2 +1,6 @@
 //! Requests that are served over a file that opens: what `run` and `work` both say of it.
 #![tactic(auto)]
+
+mod ends;
+
+pub use ends::end_of;

@@ -17,18 +17,17 @@ use Rattle.flush_run.specs.Calls.{CallsSoFar, piece_calls}
 use Rattle.flush_run.specs.Parts.{size_in}
 use Rattle.flush_run.proofs.CallLaws.{calls_then, calls_wider}
 use Rattle.change_charges.specs.Sized.{IsSizedBy}
-use Rattle.store_core.specs.declared.answers.Progress.{Progress}
-use Rattle.store_core.specs.declared.answers.Progress.TheVariants as progress
-use Rattle.store_core.specs.declared.answers.Refusal.{Refusal}
-use Rattle.store_core.specs.Begins.{HoldsFlush, origin_of}
-use Rattle.store_core.specs.Flushes.{ChangesByFlush, IsFlush, IsFlushImage, book_after, flush_boundary, map_after, names_after}
-use Rattle.store_core.specs.Keeps.{now_map}
-use Rattle.store_core.specs.Steps.{Settles, StepsHalf, StopsFlush, SumsOfStep, failed_of, more_of}
-use Rattle.store_core.proofs.MadeFlushLaws.{sized_after, sizes_after}
+use Rattle.store_answers.specs.declared.answers.Progress.{Progress}
+use Rattle.store_answers.specs.declared.answers.Progress.TheVariants as progress
+use Rattle.store_answers.specs.declared.answers.Refusal.{Refusal}
+use Rattle.store_answers.specs.Begins.{HoldsFlush, origin_of}
+use Rattle.store_answers.specs.Flushes.{ChangesByFlush, IsFlush, IsFlushImage, book_after, flush_boundary, map_after, names_after}
+use Rattle.store_answers.specs.Keeps.{now_map}
+use Rattle.store_answers.specs.Steps.{IsStep, Settles, StepsHalf, StopsFlush, SumsOfStep, failed_of, more_of}
+use Rattle.store_answers.proofs.MadeFlushLaws.{sized_after, sizes_after}
 use Rattle.store_model.specs.Connection.{FlushInHand, IsConnected, RestsOnTable, StoreValue, base_of}
 use Rattle.store_model.specs.Halves.{IsHalfImage}
 use Rattle.store_model.specs.Stores.{IsStore}
-use Rattle.sliced_laws.specs.Sliced.{IsStep}
 use Rattle.sliced_laws.proofs.GoingLaws.{IsGoingOn, book_is, flush_image, sized_before}
 
 module _ {C : ℕ} (c : Change) (a : StoreValue) (d0 : disk.State) (over : IsConnected C a d0)

@@ -30,21 +30,21 @@ use Rattle.flush_run.proofs.FlightLaws.{checkpoint_sequence, image_is_old_or_new
 use Rattle.flush_run.proofs.SizeLaws.{sizes_len}
 use Rattle.change_charges.specs.Sized.{IsSizedBy}
 use Rattle.change_charges.proofs.SizedLaws.{sized_read}
-use Rattle.store_core.specs.declared.answers.Begun.TheVariants as begun
-use Rattle.store_core.specs.declared.answers.Progress.TheVariants as progress
-use Rattle.store_core.specs.Begins.{BeginsFlush, HoldsFlush, origin_of}
-use Rattle.store_core.specs.Changes.{NothingChanged}
-use Rattle.store_core.specs.Flushes.{IsFlushImage, book_after, map_after, names_after, size_after}
-use Rattle.store_core.specs.Keeps.{now_map}
-use Rattle.store_core.specs.Steps.{MovesOne}
-use Rattle.store_core.proofs.MadeFlushLaws.{len_after}
+use Rattle.store_answers.specs.declared.answers.Begun.TheVariants as begun
+use Rattle.store_answers.specs.declared.answers.Progress.TheVariants as progress
+use Rattle.store_answers.specs.Begins.{BeginsFlush, HoldsFlush, origin_of}
+use Rattle.store_answers.specs.Changes.{NothingChanged}
+use Rattle.store_answers.specs.Flushes.{IsFlushImage, book_after, map_after, names_after, size_after}
+use Rattle.store_answers.specs.Keeps.{now_map}
+use Rattle.store_answers.specs.Steps.{IsStep, MovesOne}
+use Rattle.store_answers.proofs.MadeFlushLaws.{len_after}
 use Rattle.store_model.specs.Connection.{FlushInHand, IsConnected, RestsOnTable, StoreValue, base_of, kept_map}
 use Rattle.store_model.specs.Halves.{HalfAgrees, IsHalfImage, frame_at}
 use Rattle.store_model.specs.Quiet.{asked_after}
 use Rattle.store_model.specs.Stores.{IsStore}
 use Rattle.store_model.proofs.HalfLaws.{half_image, half_read}
 use Rattle.store_model.proofs.StoreLaws.{now_lies}
-use Rattle.sliced_laws.specs.Sliced.{GoesThrough, IsStep, Pass, Passes, Point, moves}
+use Rattle.sliced_laws.specs.Sliced.{GoesThrough, Pass, Passes, Point, moves}
 
 -- ---- a save, and a move
 

@@ -15,28 +15,28 @@ use Rattle.extent_table.specs.Extents.{Spots}
 use Rattle.placement_model.specs.Reads.{read_at}
 use Rattle.flush_run.specs.Calls.{CallsSoFar, piece_calls}
 use Rattle.flush_run.proofs.CallLaws.{calls_none, calls_wider}
-use Rattle.store_core.specs.declared.answers.Begun.{Begun}
-use Rattle.store_core.specs.declared.answers.Begun.TheVariants as begun
-use Rattle.store_core.specs.declared.answers.Done.{Done}
-use Rattle.store_core.specs.declared.answers.Progress.{Progress}
-use Rattle.store_core.specs.declared.answers.Progress.TheVariants as progress
-use Rattle.store_core.specs.declared.answers.Refusal.{Refusal}
-use Rattle.store_core.specs.declared.answers.Refusal.TheVariants as why
-use Rattle.store_core.specs.Answers.{AnswersChange, is_disk_fault, refused_by}
-use Rattle.store_core.specs.Begins.{AnswersBegin, BeginsChange, BeginsFlush, HoldsFlush}
-use Rattle.store_core.specs.Changing.{IsChange}
-use Rattle.store_core.specs.Flushes.{IsFlush, book_after, map_after, names_after}
-use Rattle.store_core.specs.Steps.{AfterStep, AnswersStep}
-use Rattle.store_core.proofs.BegunServeLaws.{quiet_done, quiet_failed}
-use Rattle.store_core.proofs.FlushChangeLaws.{IsServed, is_served}
-use Rattle.store_core.proofs.FlushLaws.{flush_step}
-use Rattle.store_core.proofs.QuietLaws.{quiet_by_book}
-use Rattle.store_core.proofs.StepLaws.{facts_same}
+use Rattle.store_answers.specs.declared.answers.Begun.{Begun}
+use Rattle.store_answers.specs.declared.answers.Begun.TheVariants as begun
+use Rattle.store_answers.specs.declared.answers.Done.{Done}
+use Rattle.store_answers.specs.declared.answers.Progress.{Progress}
+use Rattle.store_answers.specs.declared.answers.Progress.TheVariants as progress
+use Rattle.store_answers.specs.declared.answers.Refusal.{Refusal}
+use Rattle.store_answers.specs.declared.answers.Refusal.TheVariants as why
+use Rattle.store_answers.specs.Answers.{AnswersChange, is_disk_fault, refused_by}
+use Rattle.store_answers.specs.Begins.{AnswersBegin, BeginsChange, BeginsFlush, HoldsFlush}
+use Rattle.store_answers.specs.Changing.{IsChange}
+use Rattle.store_answers.specs.Flushes.{IsFlush, book_after, map_after, names_after}
+use Rattle.store_answers.specs.Steps.{AfterStep, AnswersStep, IsStep}
+use Rattle.store_answers.proofs.BegunServeLaws.{quiet_done, quiet_failed}
+use Rattle.store_answers.proofs.FlushChangeLaws.{IsServed, is_served}
+use Rattle.store_answers.proofs.FlushLaws.{flush_step}
+use Rattle.store_answers.proofs.QuietLaws.{quiet_by_book}
+use Rattle.store_answers.proofs.StepLaws.{facts_same}
 use Rattle.store_model.specs.Connection.{FlushInHand, IsConnected, StoreValue, base_of, kept_map, limits_of, state_of}
 use Rattle.store_model.specs.Quiet.{charges_of}
 use Rattle.store_model.specs.States.{Facts, Step, refusal}
 use Rattle.store_model.specs.Stores.{IsStore}
-use Rattle.sliced_laws.specs.Sliced.{IsSliced, IsStep, as_one_call, is_last, moves}
+use Rattle.sliced_laws.specs.Sliced.{IsSliced, as_one_call, is_last, moves}
 use Rattle.sliced_laws.proofs.GoingLaws.{Reaches, all_passes, begin_going}
 use Rattle.sliced_laws.proofs.EndedLaws.{settled_flush, stopped_flush}
 

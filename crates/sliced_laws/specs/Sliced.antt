@@ -4,32 +4,18 @@ use Rattle.disk_face.specs.Counts.{HasCause}
 use Rattle.disk_face.specs.States as disk
 use Rattle.disk_face.specs.Writes.{KeepsDisk}
 use Rattle.map_model.specs.Requests.{Change}
-use Rattle.store_core.specs.declared.answers.Begun.TheVariants as begun
-use Rattle.store_core.specs.declared.answers.Done.{Done}
-use Rattle.store_core.specs.declared.answers.Progress.{Progress}
-use Rattle.store_core.specs.declared.answers.Progress.TheVariants as progress
-use Rattle.store_core.specs.declared.answers.Refusal.{Refusal}
-use Rattle.store_core.specs.Answers.{is_disk_fault}
-use Rattle.store_core.specs.Begins.{BeginsChange}
-use Rattle.store_core.specs.Changes.{NothingChanged}
-use Rattle.store_core.specs.Steps.{AfterStep, AnswersStep, MakesOne, StepsHalf, SumsOfStep}
+use Rattle.store_answers.specs.declared.answers.Begun.TheVariants as begun
+use Rattle.store_answers.specs.declared.answers.Done.{Done}
+use Rattle.store_answers.specs.declared.answers.Progress.{Progress}
+use Rattle.store_answers.specs.declared.answers.Progress.TheVariants as progress
+use Rattle.store_answers.specs.declared.answers.Refusal.{Refusal}
+use Rattle.store_answers.specs.Answers.{is_disk_fault}
+use Rattle.store_answers.specs.Begins.{BeginsChange}
+use Rattle.store_answers.specs.Changes.{NothingChanged}
+use Rattle.store_answers.specs.Steps.{IsStep}
 use Rattle.store_model.specs.Connection.{FlushInHand, IsConnected, StoreValue}
 use Rattle.store_model.specs.Halves.{HalfAgrees, Origin}
 use Rattle.store_model.specs.Stores.{IsStore}
-
--- What the contract of a step says of a store and its disk, before and after.
-pub record IsStep (classes : ℕ) (old new : StoreValue) (before now : disk.State)
-    (result : Result Progress Refusal) : Type 0 where
-  pub answer : AnswersStep result
-  pub more : (h : FlushInHand) → old.in_hand ≡ Some h → 1 ≤ h.left
-  pub makes : (h : FlushInHand) → old.in_hand ≡ Some h → MakesOne old new h before now result
-  pub sums : (h : FlushInHand) → old.in_hand ≡ Some h → SumsOfStep old new h before now result
-  pub half : IsTrue before.tells → (h : FlushInHand) (o : Origin) → old.in_hand ≡ Some h
-      → HalfAgrees classes old h o before → StepsHalf classes o old new before now result
-  pub over : AfterStep classes new now result
-  pub broken : new.is_broken ≡ is_disk_fault result
-  pub frame : KeepsDisk before now
-  pub cause : HasCause before.faults now.faults result
 
 -- ---- a store with disks that each have a state
 

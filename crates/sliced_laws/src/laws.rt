@@ -2,9 +2,9 @@
 ghost use Rattle.std.specs.Prelude.{◌≡◌, ℕ, ◌+◌, ◌*◌, ◌≤◌, true, false, Result, Ok, Err, IsTrue};
 ghost use Rattle.map_model.specs.Requests as ask;
 ghost use Rattle.map_model.specs.Requests.{Change};
-ghost use Rattle.store_core.specs.declared.answers.Begun.TheVariants as begun;
-ghost use Rattle.store_core.specs.{declared.answers.Progress.{Progress}, declared.answers.Refusal.{Refusal}, Begins.{BeginsChange}, Changing.{IsChange}, Flushes.{names_after}};
-ghost use Rattle.store_core.specs.declared.answers.Progress.TheVariants as progress;
+ghost use Rattle.store_answers.specs.declared.answers.Begun.TheVariants as begun;
+ghost use Rattle.store_answers.specs.{declared.answers.Progress.{Progress}, declared.answers.Refusal.{Refusal}, Begins.{BeginsChange}, Changing.{IsChange}, Flushes.{names_after}};
+ghost use Rattle.store_answers.specs.declared.answers.Progress.TheVariants as progress;
 ghost use Rattle.store_model.specs.{Connection.{StoreValue, limits_of, state_of}, States.{Step}};
 ghost use Rattle.sliced_laws.specs.Sliced.{IsSliced, as_one_call, moves};
 

@@ -5,7 +5,7 @@ use Rattle.std.specs.Prelude.{slice_index, Ok}
 use Rattle.byte_ranges.specs.Ranges.{SameBelow, SameOutside, SameWithin, bytes_at}
 use Rattle.byte_ranges.proofs.RangeLaws.{bytes_at-same}
 use Rattle.slot_codec.specs.Choice.{Chosen, InUse, chosen, is_open, placed_at, records_at, records_text, sequence_at, slot_in_use}
-use Rattle.slot_codec.proofs.ChoiceLaws.{by_slot, chosen_long, chosen_of, chosen_parts, in_use_slot}
+use Rattle.slot_codec.proofs.ChoiceLaws.{by_slot, chosen_long, chosen_of, chosen_parts, in_use_slot, slot_low}
 use Rattle.slot_codec.proofs.CapLaws.{records_fit}
 use Rattle.slot_codec.proofs.HeaderLaws.{header_read, header_tests}
 use Rattle.slot_codec.proofs.PickLaws.{InUseParts, in_use_from, in_use_parts}
@@ -60,17 +60,11 @@ slot_kept names zero a b low same = λ i l h. same.before i (omega (arith, h))
 slot_kept names (suc zero) a b low same = λ i l h. same.after i (omega (arith, l)) (omega (arith, h))
 slot_kept names (suc (suc n)) a b low same = absurd (omega (arith, low))
 
--- the data part starts behind both slots
-pub slot_end : (names slot : ℕ) → slot ≤ 1 → slot_at names slot + slot_len names ≤ head_len names
-slot_end names zero low = omega arith
-slot_end names (suc zero) low = omega arith
-slot_end names (suc (suc n)) low = absurd (omega (arith, low))
-
 part_kept : (names slot at n : ℕ) (a b : List ℕ) → slot ≤ 1 → head_len names ≤ length a
     → head_len names ≤ length b → SameButSlot names (1 - slot) a b → slot_at names slot ≤ at
     → at + n ≤ slot_at names slot + slot_len names → bytes_at b at n ≡ bytes_at a at n
 part_kept names slot at n a b low in_a in_b same from to =
-    let end = slot_end names slot low in
+    let end = slot_low names slot low in
     sym (bytes_at-same a b at n (omega (arith, to, end, in_a)) (omega (arith, to, end, in_b))
     (λ i l h. slot_kept names slot a b low same i (omega (arith, l, from)) (omega (arith, h, to))))
 

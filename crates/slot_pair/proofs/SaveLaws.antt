@@ -5,14 +5,14 @@ use Rattle.std.specs.Prelude.{Ok}
 use Rattle.byte_ranges.specs.Ranges.{SameFrom, SameOutside, bytes_at}
 use Rattle.byte_ranges.proofs.RangeLaws.{SameOutside-trans, SameOutside-wider, bytes_at-same, bytes_at-within}
 use Rattle.slot_codec.specs.Choice.{Chosen, InUse, chosen, is_open, sequence_at, slot_in_use}
-use Rattle.slot_codec.proofs.ChoiceLaws.{chosen_parts, in_use_long}
+use Rattle.slot_codec.proofs.ChoiceLaws.{chosen_parts, in_use_long, slot_low}
 use Rattle.slot_codec.proofs.PartLaws.{stands_left, stands_number, stands_right, stands_whole}
 use Rattle.slot_codec.proofs.PickLaws.{in_use_parts}
 use Rattle.slot_codec.specs.Readable.{AreInRange, IsHeader}
 use Rattle.slot_codec.specs.Reading.{number_at}
 use Rattle.slot_codec.proofs.RecordsLaws.{table_of-written}
 use Rattle.slot_codec.specs.Rolls.{HaveDigests, IsRoll}
-use Rattle.slot_codec.proofs.SlotLaws.{SameButSlot-below, SameButSlot-trans, SameButSlot-written, chosen_kept, chosen_written, other_closed, other_low, other_newer, other_older, slot_end}
+use Rattle.slot_codec.proofs.SlotLaws.{SameButSlot-below, SameButSlot-trans, SameButSlot-written, chosen_kept, chosen_written, other_closed, other_low, other_newer, other_older}
 use Rattle.slot_codec.specs.Slots.{SameButSlot}
 use Rattle.slot_codec.specs.Spelling.{gate_at, gate_open, head_len, header_bytes, header_len, kind_code, number, record_len, room_len, slot_at, slot_len, zeros}
 use Rattle.slot_codec.proofs.StepLaws.{from_ok}
@@ -26,7 +26,7 @@ data_kept : (u : InUse) (at n : ℕ) (a b : List ℕ)
     → at + n ≤ slot_at u.block.names (1 - u.slot) + slot_len u.block.names → SameOutside at n a b
     → SameFrom (head_len u.block.names) a b
 data_kept u at n a b high same =
-    let end = slot_end u.block.names (1 - u.slot) (other_low u.slot) in
+    let end = slot_low u.block.names (1 - u.slot) (other_low u.slot) in
     record { same_length = same.same_length; bytes = λ i low. same.above i (omega (arith, low, high, end)) }
 
 -- the slot in use and its choice have one block and one slot
@@ -71,7 +71,7 @@ same_sequence : (file before : List ℕ) (u : InUse) → slot_in_use file ≡ Ok
     → IsAlikeBelow (head_len u.block.names) file before
     → sequence_at before u.block.names (1 - u.slot) ≡ sequence_at file u.block.names (1 - u.slot)
 same_sequence file before u in_use alike =
-    let end = slot_end u.block.names (1 - u.slot) (other_low u.slot) in
+    let end = slot_low u.block.names (1 - u.slot) (other_low u.slot) in
     let at = slot_at u.block.names (1 - u.slot) + 8 in
     ap (from_le_bytes w64) (sym (bytes_at-same file before at 8
     (omega (arith, end, in_use_long file u in_use)) (omega (arith, end, alike.long))
@@ -98,7 +98,7 @@ gate_keeps file before image u c in_use is opened alike same =
 
     kept_sequence : sequence_at image names other ≡ sequence_at before names other
     kept_sequence =
-        let end = slot_end names other (other_low u.slot) in
+        let end = slot_low names other (other_low u.slot) in
         ap (from_le_bytes w64) (sym (bytes_at-same before image (slot_at names other + 8) 8
         (omega (arith, end, alike.long)) (omega (arith, end, long))
         (λ i low high. same.below i (omega (arith, high)))))
@@ -125,7 +125,7 @@ pub sequence_closed : (file before image : List ℕ) (u : InUse) → slot_in_use
 sequence_closed file before image u in_use closed alike same =
     let names = u.block.names in
     let gate = gate_at names (1 - u.slot) in
-    let end = slot_end names (1 - u.slot) (other_low u.slot) in
+    let end = slot_low names (1 - u.slot) (other_low u.slot) in
     ap (λ x. x == gate_open) (sym (alike.bytes gate (omega (arith, end)) ∙ same.above gate (omega arith)))
     ∙ (in_use_parts file u in_use).other ∙ closed
 
@@ -233,7 +233,7 @@ gate_filled u h rs file middle image long few was table same =
     let names = u.block.names in
     let at = slot_at names (1 - u.slot) in
     let gate = gate_at names (1 - u.slot) in
-    let end = slot_end names (1 - u.slot) (other_low u.slot) in
+    let end = slot_low names (1 - u.slot) (other_low u.slot) in
     let kept : (from n : ℕ) → from + n ≤ gate → bytes_at image from n ≡ bytes_at middle from n =
     λ from n high. sym (bytes_at-same middle image from n (omega (arith, high, end, long, was.same_length))
     (omega (arith, high, end, long, was.same_length, same.same_length))

@@ -3,10 +3,10 @@ ghost use Rattle.std.specs.Prelude.{◌≡◌, ◌⊎◌, ◌+◌, ◌^◌, ◌<
 ghost use Rattle.byte_ranges.specs.Ranges.{bytes_at};
 ghost use Rattle.disk_face.specs.Frames.{Unchanged};
 ghost use Rattle.slot_pair.specs.Finding.{HasDiskCause};
-ghost use Rattle.store_core.specs.Reads.{IsJudged};
+ghost use Rattle.store_answers.specs.Reads.{IsJudged};
 
 use crate::Refusal;
-use crate::answers::disk_failed;
+use crate::faults::disk_failed;
 use data_area::digest_at;
 use disk_face::Disk;
 use sha2::{Digest, Sha256};

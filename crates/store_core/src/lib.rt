@@ -2,14 +2,13 @@
 //! checkpoint, to which it can go back.
 #![tactic(auto)]
 
-mod answers;
 mod begin;
 mod change;
 mod copy;
 mod digest;
+mod faults;
 mod fetch;
 mod flush;
-mod hand;
 mod held;
 mod judge;
 mod keep;
@@ -26,5 +25,5 @@ mod sliced;
 mod store;
 mod upgrade;
 
-pub use answers::{Begun, Done, Gauge, Moment, Progress, Refusal, Stat};
 pub use store::Store;
+pub use store_answers::{Begun, Done, Gauge, Moment, Progress, Refusal, Stat};

@@ -6,7 +6,6 @@ ghost use Rattle.extent_table.specs.Extents.{digests_seen};
 ghost use Rattle.store_model.specs.{Connection.{opened_store}, Resuming.{MakesStore}};
 
 use crate::Store;
-use crate::hand::Began;
 use data_area::Ledger;
 use flush_run::Hands;
 use held_guard::Guard;
@@ -14,6 +13,7 @@ use segment_layout::Layout;
 use size_class::Row;
 use slot_codec::NoMemory;
 use std::alloc::Global;
+use store_answers::Began;
 
 /// How many bytes of an object are read at a time.
 const COPIED: usize = 65536;

@@ -41,7 +41,7 @@ impl<const C: usize> Charged<C> {
 }
 
 impl<const C: usize> Store<C> {
-    ghost use Rattle.store_core.specs.{Answers.{refused_by}, Plans.{AcceptsName}};
+    ghost use Rattle.store_answers.specs.{Answers.{refused_by}, Plans.{AcceptsName}};
     ghost use Rattle.store_model.specs.{Quiet.{del_of, put_of}, Stores.{IsStore}};
 
     /// Charges a change on a copy of the layout: the object that a name has, and a new one of `size` bytes,

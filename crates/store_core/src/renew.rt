@@ -7,7 +7,7 @@ ghost use Rattle.extent_table.specs.Extents.{IsTable};
 ghost use Rattle.placement_model.specs.Reads.{EndWithin, read_at};
 
 use crate::Refusal;
-use crate::answers::disk_failed;
+use crate::faults::disk_failed;
 use data_area::digest_at;
 use disk_face::Disk;
 use extent_table::Table;

@@ -5,17 +5,17 @@ ghost use Rattle.map_model.specs.Requests as ask;
 
 use crate::begin::start_change;
 use crate::flush::launch;
-use crate::hand::Began;
 use crate::plan::{Charged, PutPlan};
 use crate::{Begun, Progress, Refusal, Store};
 use disk_face::{Disk, DiskFault};
 use extent_table::Spot;
 use flush_run::{Halted, Phase, Stepped, step};
 use slot_codec::Name;
+use store_answers::Began;
 
 impl<const C: usize> Store<C> {
     ghost use Rattle.segment_layout.specs.Books.{is_quiet};
-    ghost use Rattle.store_core.specs.{Answers.{is_disk_fault, refused_by}, Begins.{BeginsChange, BeginsServed, begun_reply}, Steps.{AfterStep, AnswersStep, MakesOne, StepsHalf, SumsOfStep}};
+    ghost use Rattle.store_answers.specs.{Answers.{is_disk_fault, refused_by}, Begins.{BeginsChange, BeginsServed, begun_reply}, Steps.{IsStep}};
     ghost use Rattle.store_model.specs.{Connection.{FlushInHand, IsConnected, limits_of, state_of}, Halves.{HalfAgrees, IsHalfway, Origin}, Charges.{ChargesStore, change_of}, Quiet.{charges_of, del_of, put_of}, States.{Step}};
 
     /// Begins to put an object under a name, as `put` does: a quiet change is done, and of any other the
@@ -149,19 +149,7 @@ impl<const C: usize> Store<C> {
     pub fn step<D: Disk>(&mut self, disk: &mut D) -> Result<Progress, Refusal>
         requires ready { IsTrue (D.state disk.old).is_ready }
         requires half { IsHalfway C self.old (D.state disk.old) }
-        ensures answer { AnswersStep result }
-        ensures more { (h : FlushInHand) → self.old.in_hand ≡ Some h → 1 ≤ h.left }
-        ensures makes { (h : FlushInHand) → self.old.in_hand ≡ Some h
-            → MakesOne self.old self.new h (D.state disk.old) (D.state disk.new) result }
-        ensures sums { (h : FlushInHand) → self.old.in_hand ≡ Some h
-            → SumsOfStep self.old self.new h (D.state disk.old) (D.state disk.new) result }
-        ensures half { IsTrue (D.state disk.old).tells → (h : FlushInHand) (o : Origin)
-            → self.old.in_hand ≡ Some h → HalfAgrees C self.old h o (D.state disk.old)
-            → StepsHalf C o self.old self.new (D.state disk.old) (D.state disk.new) result }
-        ensures over { AfterStep C self.new (D.state disk.new) result }
-        ensures broken { self.new.is_broken ≡ is_disk_fault result }
-        ensures frame { KeepsDisk (D.state disk.old) (D.state disk.new) }
-        ensures cause { HasCause (D.state disk.old).faults (D.state disk.new).faults result }
+        ensures { IsStep C self.old self.new (D.state disk.old) (D.state disk.new) result }
     {
         let phase = self.flush.take().unwrap();
         let hands = &mut *self.hands;

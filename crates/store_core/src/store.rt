@@ -4,12 +4,12 @@ ghost use Rattle.size_class.specs.Rows.{cells_of};
 ghost use Rattle.segment_layout.specs.Books.{book_end};
 
 use crate::Gauge;
-use crate::hand::Began;
 use data_area::Ledger;
 use flush_run::{Hands, Phase};
 use segment_layout::Layout;
 use slot_codec::cap;
 use std::marker::Model;
+use store_answers::Began;
 
 /// A store over its disk: where the objects stand now, and where they stood at the last checkpoint.
 /// Contracts see it as `StoreValue`.
@@ -34,7 +34,7 @@ impl<const C: usize> Model for Store<C> {
 
     ghost coded = { kept_code };
 
-    ghost use Rattle.store_core.specs.Inside.{IsWholeIn, kept_in};
+    ghost use Rattle.store_core.specs.Boxes.{IsWholeIn, kept_in};
 
     ghost view = { kept_in };
 

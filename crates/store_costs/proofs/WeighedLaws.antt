@@ -18,7 +18,7 @@ use Rattle.change_charges.specs.Sized.{IsSizedBy}
 use Rattle.change_charges.proofs.EndLaws.{blank, in_blank, shown_balanced}
 use Rattle.change_charges.proofs.SizedLaws.{sized_read}
 use Rattle.store_model.specs.Connection.{IsOver, StoreValue, base_of, kept_map}
-use Rattle.store_core.specs.Keeps.{now_map}
+use Rattle.store_answers.specs.Keeps.{now_map}
 use Rattle.store_model.specs.Quiet.{charges_of}
 use Rattle.store_model.specs.Stores.{IsStore}
 use Rattle.store_model.proofs.DigestLaws.{balanced_with}

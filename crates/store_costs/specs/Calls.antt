@@ -1,16 +1,14 @@
 -- What the contracts of the calls that change a store say of it and of the disk, before and after.
-use Rattle.std.specs.Prelude.{◌≡◌, ◌⊎◌, ℕ, false, List, [], ◌∷◌, length, Result, IsNone, IsSome}
+use Rattle.std.specs.Prelude.{◌≡◌, ◌⊎◌, ℕ, false, List, [], ◌∷◌, length, Result}
 use Rattle.disk_face.specs.States as disk
 use Rattle.size_class.specs.Classes.{width}
-use Rattle.map_model.specs.Requests as ask
 use Rattle.map_model.specs.Requests.{Change}
-use Rattle.store_core.specs.declared.answers.Refusal.{Refusal}
-use Rattle.store_core.specs.declared.answers.Done.{Done}
-use Rattle.store_core.specs.Answers.{is_disk_fault, refused_by}
-use Rattle.store_core.specs.Changes.{NothingChanged}
-use Rattle.store_core.specs.Changing.{IsChange}
+use Rattle.store_answers.specs.declared.answers.Refusal.{Refusal}
+use Rattle.store_answers.specs.declared.answers.Done.{Done}
+use Rattle.store_answers.specs.Answers.{is_disk_fault}
+use Rattle.store_answers.specs.Changing.{IsChange}
 use Rattle.store_model.specs.Connection.{StoreValue}
-use Rattle.store_core.specs.Keeps.{AnswersKeep, KeepsNow}
+use Rattle.store_answers.specs.Keeps.{IsKeep}
 use Rattle.store_model.specs.Stores.{IsStore}
 use Rattle.store_costs.specs.Paid.{HasOpenLedger}
 
@@ -27,13 +25,6 @@ pub record IsCounted (classes : ℕ) (c : Change) (old new : StoreValue) (before
   pub sound : IsSound classes old
   pub full : length old.asked ≡ width
   pub counts : HasOpenLedger new
-
--- What a keep says of them.
-pub record IsKeep (classes : ℕ) (old new : StoreValue) (before now : disk.State)
-    (result : Result Done Refusal) : Type 0 where
-  pub answer : AnswersKeep (refused_by old ask.keep) result
-  pub refused : IsSome (refused_by old ask.keep) → NothingChanged old new before now
-  pub kept : IsNone (refused_by old ask.keep) → KeepsNow classes old new before now result
 
 -- what going back makes of a store
 abbrev pub gone_back : StoreValue → StoreValue

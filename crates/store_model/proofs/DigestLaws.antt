@@ -37,17 +37,7 @@ next_digests k m b c = refl
 
 pub balanced_with : (k : ℕ) (m : Map) (b : Book) (ds : Option Map) → IsBalanced k m b
     → IsBalanced k m (with_digests ds b)
-balanced_with k m b ds h = record {
-  caps_full = h.caps_full;
-  grid_full = h.grid_full;
-  rows = h.rows;
-  lower = h.lower;
-  entry = h.entry;
-  full = h.full;
-  payload = h.payload;
-  buffers = h.buffers;
-  balance = h.balance;
-}
+balanced_with k m b ds h = search (h)
 
 -- ---- versions
 

@@ -5,7 +5,7 @@ use Rattle.byte_ranges.specs.Ranges.{SameBelow, SameWithin}
 use Rattle.disk_face.specs.States as disk
 use Rattle.disk_face.specs.Frames.{Unchanged}
 use Rattle.disk_face.specs.Moments.{Leaves}
-use Rattle.disk_face.proofs.FrameLaws.{Stays-trans, Unchanged-trans}
+use Rattle.disk_face.proofs.FrameLaws.{Stays-trans, Unchanged-trans, unchanged_itself}
 use Rattle.disk_face.proofs.MomentLaws.{Leaves-none, Leaves-trans, Leaves-weaken}
 use Rattle.size_class.specs.Classes.{zero_row}
 use Rattle.size_class.specs.declared.TheConstants.{SIZE_MAX}
@@ -185,16 +185,6 @@ found_by {classes} {t} {u} {m} {n} {b} {c} {before} {now} {result} same is =
     (subst (λ (x : choice.SlotTable). OpensFound classes x m b before now result) same.same_table is))
 
 -- ---- nothing at all
-
-pub unchanged_itself : (a : disk.State) → IsTrue a.is_ready → Unchanged a a
-unchanged_itself a ready = record {
-  same_file = λ told. refl;
-  images = λ image left. left;
-  since = Leaves-none a a.may_leave;
-  same_turn = refl;
-  later = omega arith;
-  stays = record { ready = ready; told = refl; images_told = refl; same_mount = refl };
-}
 
 pub no_memory : (classes : ℕ) (a : disk.State) → IsTrue a.is_ready
     → IsOpening classes a a (Err fault.NoMemory)

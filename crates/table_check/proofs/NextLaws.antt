@@ -24,6 +24,7 @@ use Rattle.placement_model.proofs.ReadLaws.{found_by_name}
 use Rattle.table_check.specs.Nexts.{EndBeforeNext, StandsAtRank}
 use Rattle.table_check.specs.Placed.{ranked}
 use Rattle.table_check.proofs.OverlapLaws.{AreApart}
+use Rattle.extent_table.proofs.PlaceCmpLemmas.{stands_lower}
 
 -- ---- a rank
 
@@ -66,14 +67,6 @@ module _ (spots : Spots) (n : ℕ) (s : Spot) (here : StandsAtRank spots n s) wh
       ap (λ (x : Spot). x.place + x.size) same
 
 -- ---- all ranks
-
--- what comes before something by place stands no higher
-stands_lower : (a b : ℕ) (r rest : Ordering) → r ≡ nat_cmp a b → ordering_then r rest ≡ Less → a ≤ b
-stands_lower a b Less rest is less = let h = subst (λ o. MatchOrdering o (a < b) (a ≡ b) (b < a)) (sym is)
-    (ranks a b) in omega (arith, h)
-stands_lower a b Equal rest is less = let h = subst (λ o. MatchOrdering o (a < b) (a ≡ b) (b < a)) (sym is)
-    (ranks a b) in omega (arith, h)
-stands_lower a b Greater rest is less = absurd (cc)
 
 module _ (e : Extents) where
   abbrev placed_at : ℕ → List ℕ × Spot → Type 0

@@ -45,6 +45,7 @@ use Rattle.table_rules.proofs.TableLaws.{bound_fits, settled_in, buffered_in, se
 use Rattle.segment_layout.proofs.NextLaws.{balanced_from}
 use Rattle.table_rules.specs.Objects.{IsAbsent, HaveDistinctNames, LieWithin}
 use Rattle.table_rules.specs.Rules.{KeepsPlaces}
+use Rattle.slot_codec.proofs.OrderLemmas.{is_less}
 
 turn : (a b : List ℕ) → same_name a b ≡ false → same_name b a ≡ false
 turn a b other = (eq_by_cmp_equiv name_order).symm b a ∙ other
@@ -233,11 +234,6 @@ balanced_of_table t base file h p fits named lie =
     (length-volumes_of_sizes (sizes t.records))) (holds_of_table t base file named lie h p fits)
 
 -- ---- the table of a file
-
-is_less : (o : Ordering) → is_lt o ≡ true → o ≡ Less
-is_less Less h = refl
-is_less Equal h = cc
-is_less Greater h = cc
 
 -- what rises from a name rises from a lesser one
 rise_from : (q a : List ℕ) (rs : List Record) → name_cmp q a ≡ Less → RiseFrom (Some a) rs

@@ -17,6 +17,7 @@ use Rattle.served_file.proofs.StepsLaws.{KeepsDone, sinkless}
 use Rattle.upgrade_command.specs.Doing.{IsUpgrade, PutsUpgraded}
 use Rattle.upgrade_command.proofs.IdleLaws.{Idle, WasFailed, WasIdle, WasSaved, either, was_done, was_idle}
 use Rattle.upgrade_command.proofs.IdleLaws.Idle.{already, many, worn}
+use Rattle.disk_face.proofs.FrameLaws.{keeps_unchanged}
 
 -- The end of a call that kept the devices, by how it came: the line was put, or the sink failed; it was
 -- refused and nothing was put; or the disk failed and nothing was put.
@@ -29,9 +30,6 @@ pub record Ended (a b : Devices) (end : Result (Unit {0}) StopReason) : Type 0 w
   pub frame : KeepsDisk a.disk b.disk
   pub causes : HasCausesAt a.disk b.disk a.sink b.sink end
   pub how : HowEnded a b end
-
-keeps_unchanged : {a b : State} → Unchanged a b → KeepsDisk a b
-keeps_unchanged same = record { no_turn_back = omega (arith, same.same_turn); stays = same.stays }
 
 module _ (a b : Devices) where
   -- the line was put, or the sink failed

@@ -11,17 +11,17 @@ use Rattle.segment_layout.specs.Books.{version_of}
 use Rattle.store_model.specs.Connection.{IsConnected, StoreValue, base_of, state_of}
 use Rattle.store_model.specs.States.{State, refused_from}
 use Rattle.store_model.specs.Stores.{IsStore}
-use Rattle.store_model.proofs.StateLaws.{len-read_at}
-use Rattle.store_core.specs.Answers.{is_disk_fault}
-use Rattle.store_core.specs.Changes.{NothingChanged}
-use Rattle.store_core.specs.Upgrades.{AnswersUpgrade, Upgrades, idle_answer}
-use Rattle.store_core.specs.declared.answers.Done.{Done}
-use Rattle.store_core.specs.declared.answers.Refusal.{Refusal}
-use Rattle.store_core.specs.declared.answers.Refusal.TheVariants as why
+use Rattle.store_answers.specs.Answers.{is_disk_fault}
+use Rattle.store_answers.specs.Changes.{NothingChanged}
+use Rattle.store_answers.specs.Upgrades.{AnswersUpgrade, Upgrades, idle_answer}
+use Rattle.store_answers.specs.declared.answers.Done.{Done}
+use Rattle.store_answers.specs.declared.answers.Refusal.{Refusal}
+use Rattle.store_answers.specs.declared.answers.Refusal.TheVariants as why
 use Rattle.command_face.specs.declared.stop.StopReason.{StopReason}
 use Rattle.command_face.specs.declared.stop.StopReason.TheVariants as stop
 use Rattle.upgrade_command.specs.Doing.{EndsBy, IsUpgrade, PutsUpgraded}
 use Rattle.upgrade_command.specs.Upgrading.{idle_end, upgraded_line}
+use Rattle.placement_model.proofs.EntryLaws.{len-read_at}
 
 -- ---- why there is nothing to do
 

@@ -30,6 +30,7 @@ use Rattle.command_face.specs.declared.stop.StopReason.TheVariants as stop
 use Rattle.command_face.proofs.UnopenedLaws.{disk_by, mount_untouched, not_status, status_unopened}
 use Rattle.served_file.proofs.RefusedLaws.{refused_unchanged, refuses}
 use Rattle.disk_face.specs.Devices.{devices}
+use Rattle.disk_face.proofs.FrameLaws.{keeps_then}
 
 -- ---- the devices, the mount, and what was put, by the status
 
@@ -176,18 +177,6 @@ module _ {D : Type 0} (disk_of : D → State) (file : List ℕ) (asked : Numbere
         (inl refl) (λ is. omega (arith, is)) (λ is. omega (arith, is)) (λ is. absurd (omega (arith, is))) same
         (λ is. absurd (omega (arith, is))))
 
-    -- what the jobs do beside what opening did
-    frame_after : {mid : State} → KeepsDisk first mid → KeepsDisk mid z → KeepsDisk first z
-    frame_after one more = record {
-      no_turn_back = omega (arith, one.no_turn_back, more.no_turn_back);
-      stays = record {
-        ready = more.stays.ready;
-        told = more.stays.told ∙ one.stays.told;
-        images_told = more.stays.images_told ∙ one.stays.images_told;
-        same_mount = more.stays.same_mount ∙ one.stays.same_mount;
-      };
-    }
-
     rose_before : (a b c : ℕ) → a ≤ b → Rose b c → Rose a c
     rose_before a b c low rose = omega (arith, low, rose)
 
@@ -196,7 +185,7 @@ module _ {D : Type 0} (disk_of : D → State) (file : List ℕ) (asked : Numbere
         (status_at end)
     in_job x same = carried (Err stop.Disk) x.ended
         (stopped_there file asked old z out put first mount calm there
-        (frame_after x.opening.frame x.stopped.frame) (omega (arith, x.opening.cause.later, x.stopped.later))
+        (keeps_then x.opening.frame x.stopped.frame) (omega (arith, x.opening.cause.later, x.stopped.later))
         7 (inl refl)
         (λ is. omega (arith, is)) (λ is. omega (arith, is))
         (λ is. rose_before first.faults (disk_of x.mid).faults z.faults x.opening.cause.later x.stopped.rose)
@@ -209,7 +198,7 @@ module _ {D : Type 0} (disk_of : D → State) (file : List ℕ) (asked : Numbere
     summed x = by end refl x.only x.cause
       where
         frame : KeepsDisk first z
-        frame = frame_after x.opening.frame x.done.ran.frame
+        frame = keeps_then x.opening.frame x.done.ran.frame
 
         later : first.faults ≤ z.faults
         later = omega (arith, x.opening.cause.later, x.done.ran.later)

@@ -9,15 +9,15 @@ use Rattle.map_model.specs.Requests.{Change, Refused, Reply, Request}
 use Rattle.store_model.specs.Connection.{IsConnected, StoreValue, limits_of, state_of}
 use Rattle.store_model.specs.States.{Limits, State, Step, object_in, served}
 use Rattle.store_model.specs.Stores.{IsStore}
-use Rattle.store_core.specs.declared.answers.Done.{Done}
-use Rattle.store_core.specs.declared.answers.Refusal.{Refusal}
-use Rattle.store_core.specs.declared.answers.Refusal.TheVariants as why
-use Rattle.store_core.specs.Answers as store
-use Rattle.store_core.specs.Answers.{done_reply, refused_reply, reply_of}
-use Rattle.store_core.specs.Changing.{IsChange}
-use Rattle.store_core.specs.Readings.{IsRead}
-use Rattle.store_core.proofs.StepLaws.{always}
-use Rattle.store_costs.specs.Calls.{IsKeep}
+use Rattle.store_answers.specs.declared.answers.Done.{Done}
+use Rattle.store_answers.specs.declared.answers.Refusal.{Refusal}
+use Rattle.store_answers.specs.declared.answers.Refusal.TheVariants as why
+use Rattle.store_answers.specs.Answers as store
+use Rattle.store_answers.specs.Answers.{done_reply, refused_reply, reply_of}
+use Rattle.store_answers.specs.Changing.{IsChange}
+use Rattle.store_answers.specs.Readings.{IsRead}
+use Rattle.store_answers.proofs.StepLaws.{always}
+use Rattle.store_answers.specs.Keeps.{IsKeep}
 use Rattle.read_cache.specs.CacheValues.{CacheValue}
 use Rattle.read_cache.specs.Coherence.{IsCoherent}
 use Rattle.read_cache.specs.Gets.{HasListed, ListsGet, is_sink, size_got}

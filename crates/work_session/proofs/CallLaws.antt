@@ -1,4 +1,4 @@
--- The calls that move bytes, of a row of bytes by class: those of parts, and those by what the row weighs.
+-- The calls that move bytes, of a row of bytes by class: those of div_sum, and those by what the row weighs.
 use Rattle.std.specs.Prelude.{◌≡◌, ℕ, ◌+◌, ◌-◌, ◌*◌, ◌/◌, ◌^◌, ◌<◌, ◌≤◌, List, slice_index}
 use Rattle.std.proofs.Common.{arith, ◌∙◌, ap, inl, inr}
 use Rattle.std.proofs.Math.Nat.{add-mul, div-mul-le_self, le-div_iff_mul-le, mul-le-mul_left, mul-le-mul_right, one-le-pow}
@@ -11,23 +11,9 @@ use Rattle.segment_layout.proofs.SumLaws.{sum_below_add, sum_below_agree, sum_be
 use Rattle.cost_laws.proofs.FewPlaces.{sum_below_rest}
 use Rattle.flush_run.specs.Calls.{class_calls, move_calls, risen, row_rise}
 use Rattle.move_cost.specs.Costs.{flat, linear, rate, weigh}
+use Rattle.flush_run.proofs.CallLaws.{div_sum, class_calls_sum}
 
--- ---- parts
-
-parts : (m a b : ℕ) → 0 < m → a / m + b / m ≤ (a + b) / m
-parts m a b some = (le-div_iff_mul-le some).1 (omega (
-  arith,
-  add-mul (a / m) (b / m) m,
-  div-mul-le_self a m,
-  div-mul-le_self b m,
-))
-
-class_parts : (c a b : ℕ) → class_calls c a + class_calls c b ≤ class_calls c (a + b)
-class_parts c a b = omega (
-  arith,
-  parts (2 ^ c) a b (omega (arith, one-le-pow c 2 (omega arith))),
-  parts 65536 a b (omega arith),
-)
+-- ---- div_sum
 
 -- the calls of what a row had, and of what it rose by, are at most those of all of it
 pub calls_add : (old new : List ℕ) → ((c : ℕ) → slice_index old c ≤ slice_index new c)
@@ -51,7 +37,7 @@ calls_add old new later =
         omega (arith, rose, later c) in
         omega (
           arith,
-          class_parts c (slice_index old c) (slice_index (risen old new) c),
+          class_calls_sum c (slice_index old c) (slice_index (risen old new) c),
           ap (class_calls c) all,
         )
 

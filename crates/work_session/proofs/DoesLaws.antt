@@ -11,27 +11,25 @@ use Rattle.slot_pair.specs.Saves.{save_calls}
 use Rattle.map_model.specs.Requests as ask
 use Rattle.map_model.specs.Requests.{Change, Refused, Reply, Request}
 use Rattle.extent_table.specs.declared.spot.Spot.{Spot}
-use Rattle.store_model.proofs.StateLaws.{len-read_at}
-use Rattle.store_core.specs.declared.answers.Refusal.{Refusal}
-use Rattle.store_core.specs.declared.answers.Refusal.TheVariants as why
-use Rattle.store_core.specs.declared.answers.Done.{Done}
-use Rattle.store_core.specs.Answers.{AnswersChange, AnswersNumber, AnswersRead, done_reply, refusal_for, refused_by, refused_reply, reply_of, size_at}
-use Rattle.store_core.specs.Answers as store
-use Rattle.store_core.specs.Readings.{is_damaged_read}
-use Rattle.store_core.specs.declared.answers.Moment.TheVariants as moment
-use Rattle.store_core.specs.Changes.{NothingChanged}
-use Rattle.store_core.specs.Changing.{IsChange}
+use Rattle.store_answers.specs.declared.answers.Refusal.{Refusal}
+use Rattle.store_answers.specs.declared.answers.Refusal.TheVariants as why
+use Rattle.store_answers.specs.declared.answers.Done.{Done}
+use Rattle.store_answers.specs.Answers.{AnswersChange, AnswersNumber, AnswersRead, done_reply, refusal_for, refused_by, refused_reply, reply_of, size_at}
+use Rattle.store_answers.specs.Answers as store
+use Rattle.store_answers.specs.Readings.{is_damaged_read}
+use Rattle.store_answers.specs.declared.answers.Moment.TheVariants as moment
+use Rattle.store_answers.specs.Changes.{NothingChanged}
+use Rattle.store_answers.specs.Changing.{IsChange}
 use Rattle.store_model.specs.Connection.{IsConnected, StoreValue, base_of, limits_of, state_of}
-use Rattle.store_core.specs.Keeps.{AnswersKeep, kept_now}
+use Rattle.store_answers.specs.Keeps.{AnswersKeep, IsKeep, kept_now}
 use Rattle.store_model.specs.Quiet.{charges_of}
 use Rattle.store_model.specs.States.{Served, State, Step, object_in, unchanged}
 use Rattle.store_model.specs.Stores.{IsStore}
-use Rattle.store_core.proofs.AnsweredLaws.{number_served}
+use Rattle.store_answers.proofs.AnsweredLaws.{number_served}
 use Rattle.data_area.proofs.CauseLaws.{calm_disk, disk_cause_as}
-use Rattle.store_core.proofs.StepLaws.{always, read_reply}
+use Rattle.store_answers.proofs.StepLaws.{always, read_reply}
 use Rattle.store_model.proofs.StoreLaws.{small_if_there}
 use Rattle.segment_layout.specs.Books.{is_quiet}
-use Rattle.store_costs.specs.Calls.{IsKeep}
 use Rattle.store_costs.proofs.ChangeLaws.{at_ok, same_moves_nothing}
 use Rattle.store_costs.proofs.OtherLaws.{keep_moves_nothing}
 use Rattle.ask_text.specs.Replies.{reply_line_of, told_for}
@@ -49,6 +47,7 @@ use Rattle.ask_serve.proofs.ServingLaws.{refused_stays, serves_same}
 use Rattle.work_session.specs.Counts.{asked_by, calls_by}
 use Rattle.work_session.specs.Jobs.{Charges, Does, most_read}
 use Rattle.work_session.proofs.DoneLaws.{IsShortChange, change_charges, nothing_charged, refused_asks, small_change, sound_if}
+use Rattle.placement_model.proofs.EntryLaws.{len-read_at}
 
 -- ---- refused
 

@@ -21,17 +21,17 @@ use Rattle.extent_table.specs.Extents.{Spots}
 use Rattle.placement_model.specs.Reads.{EndWithin, read_at}
 use Rattle.flush_run.specs.Parts.{size_in}
 use Rattle.change_charges.specs.Sized.{IsSizedBy}
-use Rattle.change_charges.proofs.SizedLaws.{sized_entries, sized_gone, sized_volume}
+use Rattle.change_charges.proofs.SizedLaws.{sized_entries, sized_gone, sized_volume, sized_len}
 use Rattle.move_cost.specs.Costs.{IsCost}
-use Rattle.store_core.specs.declared.answers.Refusal.{Refusal}
-use Rattle.store_core.specs.declared.answers.Refusal.TheVariants as why
-use Rattle.store_core.specs.declared.answers.Done.{Done}
-use Rattle.store_core.specs.Answers.{AnswersChange, done_reply, refused_by}
-use Rattle.store_core.specs.Changes.{ChangesQuietly}
-use Rattle.store_core.specs.Changing.{IsChange}
+use Rattle.store_answers.specs.declared.answers.Refusal.{Refusal}
+use Rattle.store_answers.specs.declared.answers.Refusal.TheVariants as why
+use Rattle.store_answers.specs.declared.answers.Done.{Done}
+use Rattle.store_answers.specs.Answers.{AnswersChange, done_reply, refused_by}
+use Rattle.store_answers.specs.Changes.{ChangesQuietly}
+use Rattle.store_answers.specs.Changing.{IsChange}
 use Rattle.store_model.specs.Connection.{IsOver, StoreValue, base_of, limits_of, state_of}
-use Rattle.store_core.specs.Flushes.{ChangesByFlush, IsFlush, names_after, size_after}
-use Rattle.store_core.specs.Keeps.{now_map}
+use Rattle.store_answers.specs.Flushes.{ChangesByFlush, IsFlush, names_after, size_after}
+use Rattle.store_answers.specs.Keeps.{now_map}
 use Rattle.store_model.specs.Quiet.{asked_after, charges_of, del_of, put_of, sizes_at}
 use Rattle.store_model.specs.States.{State, Step}
 use Rattle.store_model.specs.Stores.{IsStore}
@@ -109,17 +109,12 @@ refused_asks s ask.stat w e = refl
 
 -- ---- how many names there are after a change
 
-same_len : (m : Map) (spots : Spots) → IsSizedBy m spots → fin.len m ≡ fin.len spots
-same_len m spots sized =
-    fin.len-entries m ∙ sym (length-map (fin.entries m) _) ∙ ap length (sized_entries m spots sized)
-    ∙ length-map (fin.entries spots) _ ∙ sym (fin.len-entries spots)
-
 len_changed : (s : StoreValue) (c : Change) (m : Map) → IsSizedBy m s.now
     → fin.len (changed c m) ≡ names_after s c
 len_changed s c m sized = by c.object
   where
     gone : fin.len (fin.remove m c.name) ≡ fin.len (fin.remove s.now c.name)
-    gone = same_len (fin.remove m c.name) (fin.remove s.now c.name) (sized_gone m s.now c.name sized)
+    gone = sized_len (fin.remove m c.name) (fin.remove s.now c.name) (sized_gone m s.now c.name sized)
 
     by : (o : Option (List ℕ)) → fin.len (changed (record { name = c.name; object = o }) m)
         ≡ names_after s (record { name = c.name; object = o })
@@ -283,9 +278,9 @@ module _ {classes : ℕ} (s new : StoreValue) (c : Change) (a d : disk.State) (d
     sized_after map is q = after_sizes s c map is q ∙ sym (v.sizes q)
 
     names : IsTrue a.tells → fin.len (state_of new d.file).map ≡ names_after s c
-    names told = same_len (now_map new d.file) new.now
+    names told = sized_len (now_map new d.file) new.now
         (sized_now new sound (base_of new) d.file (now_lies new d.file sound (over_new told)))
-        ∙ sym (same_len (changed c m) new.now (sized_after m (sized told))) ∙ len_changed s c m (sized told)
+        ∙ sym (sized_len (changed c m) new.now (sized_after m (sized told))) ∙ len_changed s c m (sized told)
 
     moved_few : (e : ℕ) → slice_index new.moved e ≤ slice_index s.moved e + most_rise
     moved_few e = omega (

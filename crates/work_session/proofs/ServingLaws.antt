@@ -3,7 +3,7 @@ use Rattle.std.specs.Prelude.{◌≡◌, ℕ, ◌≤◌, List, [], ◌∷◌, �
 use Rattle.std.proofs.Common.{ap, sym, ◌∙◌, subst, append-nil}
 use Rattle.disk_face.specs.States as disk
 use Rattle.map_model.specs.Requests.{Reply, Request}
-use Rattle.store_core.proofs.StepLaws.{always}
+use Rattle.store_answers.proofs.StepLaws.{always}
 use Rattle.store_model.specs.Connection.{IsConnected, StoreValue}
 use Rattle.store_model.specs.Opened.{IsFresh}
 use Rattle.ask_text.specs.declared.reply.Reply as text

@@ -13,7 +13,6 @@ use Rattle.move_cost.specs.Lawful.{flat_is, linear_is, seek_is}
 use Rattle.store_model.specs.Connection.{IsOver, StoreValue, base_of, state_of}
 use Rattle.store_model.specs.States.{State}
 use Rattle.store_model.proofs.OverLaws.{kept_image}
-use Rattle.store_model.proofs.StateLaws.{len-read_at}
 use Rattle.store_model.proofs.StoreLaws.{now_lies}
 use Rattle.store_costs.proofs.SessionLaws.{in_all}
 use Rattle.store_costs.proofs.WeighedLaws.{sized_now}
@@ -29,6 +28,7 @@ use Rattle.work_session.specs.declared.summary.Cost.{Cost}
 use Rattle.work_session.specs.declared.summary.Summary.{Summary}
 use Rattle.work_session.specs.declared.tally.Tally.{Tally}
 use Rattle.work_session.proofs.CallLaws.{calls_by_weight, linear_weighs}
+use Rattle.placement_model.proofs.EntryLaws.{len-read_at}
 
 -- how many jobs a number has
 pub jobs_long : (number count names : ℕ) → length (jobs_of number count names) ≡ count + 1

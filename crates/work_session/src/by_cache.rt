@@ -11,8 +11,8 @@ ghost use Rattle.read_cache.specs.Coherence.{IsCoherent};
 ghost use Rattle.work_session.specs.Servers.{BecomesCached, ServesJob};
 
 use crate::Server;
-use crate::answers::{answer_change, answer_of};
 use crate::sink::Dropped;
+use ask_serve::{answer_change, answer_of};
 use ask_text::{End, Reply};
 use data_area::Ledger;
 use disk_face::Disk;

@@ -2,7 +2,6 @@
 //! of what they came to and of what they cost.
 #![tactic(auto)]
 
-mod answers;
 mod by_cache;
 mod by_store;
 mod job;

@@ -1,5 +1,5 @@
 use Rattle.map_model.specs.Requests as ask
-use Rattle.store_core.specs.Answers.{refused_by}
+use Rattle.store_answers.specs.Answers.{refused_by}
 use Rattle.ask_serve.proofs.AnswerLaws.{keep_answers, keep_calls}
 use Rattle.ask_serve.proofs.ReplyLaws.{answered_as}
 use Rattle.ask_serve.proofs.changes.serve_keep.Goals as goal

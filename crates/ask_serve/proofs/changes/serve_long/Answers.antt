@@ -4,8 +4,8 @@ use Rattle.store_model.specs.Quiet.{put_of}
 use Rattle.map_model.specs.Requests as ask
 use Rattle.ask_serve.proofs.AnswerLaws.{refused_head}
 use Rattle.ask_serve.proofs.TooLongLaws.{long_is_refused, name_is_refused}
-use Rattle.store_core.proofs.ChangingLaws.{unchanged_itself}
 use Rattle.ask_serve.proofs.changes.serve_long.Goals as goal
+use Rattle.disk_face.proofs.FrameLaws.{unchanged_itself}
 
 pub returns-else-is_name : goal.returns-else-is_name
 returns-else-is_name g c object long =

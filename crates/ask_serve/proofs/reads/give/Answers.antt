@@ -4,8 +4,8 @@ use Rattle.std.proofs.lemmas.Grind.{common_steps}
 use Rattle.disk_face.specs.Streams.{SinkState}
 use Rattle.ask_text.specs.Replies.{first_line}
 use Rattle.ask_text.specs.declared.reply.Reply.TheVariants as head
-use Rattle.store_core.specs.Answers.{refused_by, size_at}
-use Rattle.store_core.specs.Readings.{asks_for, is_damaged_read, object_read, spot_read}
+use Rattle.store_answers.specs.Answers.{refused_by, size_at}
+use Rattle.store_answers.specs.Readings.{asks_for, is_damaged_read, object_read, spot_read}
 use Rattle.data_area.proofs.CauseLaws.{calm_disk, sink_cause_after}
 use Rattle.store_model.specs.Connection.{state_of}
 use Rattle.ask_serve.specs.ReplyLines.{object_text}

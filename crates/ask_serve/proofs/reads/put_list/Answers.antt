@@ -1,8 +1,8 @@
 use Rattle.std.proofs.Common.{ap, refl, Err, None}
 use Rattle.map_model.specs.Requests as ask
-use Rattle.store_core.proofs.AnsweredLaws.{refused_is}
+use Rattle.store_answers.proofs.AnsweredLaws.{refused_is}
 use Rattle.ask_serve.proofs.AnswerLaws.{none_is}
-use Rattle.store_core.specs.declared.answers.Refusal.{Refusal}
+use Rattle.store_answers.specs.declared.answers.Refusal.{Refusal}
 use Rattle.data_area.proofs.CauseLaws.{sink_cause_as}
 use Rattle.ask_serve.proofs.PutLaws.{puts_sink}
 use Rattle.ask_serve.proofs.ReplyLaws.{list_fault}

@@ -1,10 +1,10 @@
 use Rattle.std.proofs.Common.{sym, subst}
 use Rattle.disk_face.specs.Devices.{devices}
-use Rattle.store_core.specs.Answers.{refused_by, size_at}
+use Rattle.store_answers.specs.Answers.{refused_by, size_at}
 use Rattle.store_model.specs.Connection.{StoreValue, state_of}
-use Rattle.store_core.specs.Readings.{asks_for, is_damaged_read, object_read, spot_read}
+use Rattle.store_answers.specs.Readings.{asks_for, is_damaged_read, object_read, spot_read}
 use Rattle.ask_serve.specs.Serving.{GivesReply}
-use Rattle.store_core.proofs.AnsweredLaws.{number_refused, number_served}
+use Rattle.store_answers.proofs.AnsweredLaws.{number_refused, number_served}
 use Rattle.ask_serve.proofs.ReadReplyLaws.{found_gives, object_long, object_served, refused_gives}
 use Rattle.ask_serve.proofs.reads.serve_object.Goals as goal
 

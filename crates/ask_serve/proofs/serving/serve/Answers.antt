@@ -1,7 +1,7 @@
 use Rattle.std.proofs.Common.{◌≡◌, List, ℕ, ap, sym, ◌∙◌}
 use Rattle.store_model.specs.Quiet.{del_of, put_of}
 use Rattle.map_model.specs.Requests as request
-use Rattle.store_core.specs.declared.answers.Moment.TheVariants as moment
+use Rattle.store_answers.specs.declared.answers.Moment.TheVariants as moment
 use Rattle.ask_serve.proofs.KindLaws.{back_is, del_is, get_is, keep_is, list_is, old_is, put_is, stat_is}
 use Rattle.ask_serve.proofs.ReadReplyLaws.{list_replies, object_replies}
 use Rattle.ask_serve.proofs.ReplyLaws.{replied_as}

@@ -1,8 +1,8 @@
 -- The input was read and applied, or couldn't be read.
 use Rattle.std.proofs.Common.{inl, inr, refl, subst, take, ℕ}
-use Rattle.batch_core.proofs.AppliesLaws.{unchanged_same}
 use Rattle.batch_command.specs.Reading.{LeavesFrom, ReadsFront}
 use Rattle.batch_command.proofs.batch.apply_input.Goals as goal
+use Rattle.disk_face.proofs.FrameLaws.{unchanged_itself}
 
 pub returns-in-Ok : goal.returns-in-Ok
 returns-in-Ok g c = inr (record {
@@ -27,7 +27,7 @@ returns-in-Err g c = inl (record {
         (g.I.Source.state c.read_text.new.input).left) c.requires.room (c.in-Err.ensures.front told);
   };
   disk = record {
-    frame = unchanged_same (g.D.Disk.state c.args.disk.now) c.requires.ready;
+    frame = unchanged_itself (g.D.Disk.state c.args.disk.now) c.requires.ready;
     calm = refl;
   };
   ended = refl;

@@ -3,8 +3,8 @@ use Rattle.std.proofs.Common.{inl, refl}
 use Rattle.ask_serve.specs.Outside.{held, seen_by}
 use Rattle.desk_command.proofs.AlwaysLaws.{source_same}
 use Rattle.desk_command.proofs.WentLaws.{desk_source, desk_steps}
-use Rattle.store_core.proofs.ChangingLaws.{unchanged_itself}
 use Rattle.desk_command.proofs.desk.desk_store.Goals as goal
+use Rattle.disk_face.proofs.FrameLaws.{unchanged_itself}
 
 pub returns-in-Ok-clause-steps : goal.returns-in-Ok-clause-steps
 returns-in-Ok-clause-steps g c = desk_steps

@@ -6,8 +6,9 @@ use Rattle.ask_text.proofs.AskLaws.{lacks-line}
 use Rattle.ask_text.specs.Asks.{ask_of, line_of}
 use Rattle.ask_text.specs.Inputs.{body_of}
 use Rattle.circular_buffer.specs.Buffer.{buffer}
-use Rattle.desk_queues.proofs.TextLaws.{bare_of, size_fits, taken_ask, taken_left, taken_newline, taken_object, text_begins_line, text_is}
+use Rattle.desk_queues.proofs.TextLaws.{bare_of, size_fits, taken_ask, taken_left, taken_newline, taken_object, text_begins_line}
 use Rattle.desk_queues.proofs.taken.take_first.Goals as goal
+use Rattle.ask_text.proofs.InputLaws.{text_is}
 
 pub take_line-line-requires : goal.take_line-line-requires
 take_line-line-requires c = record { line = text_begins_line c.args.ring.now.items c.requires.text }

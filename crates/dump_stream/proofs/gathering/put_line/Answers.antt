@@ -2,8 +2,8 @@ use Rattle.std.proofs.Common.{arith, ap, length, length-append}
 use Rattle.std.specs.Prelude.{codes}
 use Rattle.std.specs.Fmt.{decimal}
 use Rattle.std.proofs.lemmas.Fmt.{length-decimal-le}
-use Rattle.dump_stream.proofs.PutLaws.{name_short}
 use Rattle.dump_stream.proofs.gathering.put_line.Goals as goal
+use Rattle.slot_codec.proofs.NameLemmas.{name_short}
 
 pub push_number-requires : goal.push_number-requires
 push_number-requires c = omega (

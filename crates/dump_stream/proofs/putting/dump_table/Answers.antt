@@ -9,9 +9,10 @@ use Rattle.placement_model.specs.Reads.{EndWithin, read_at}
 use Rattle.dump_stream.specs.Dumping.{PutsSound, read_entries}
 use Rattle.dump_stream.specs.Dumps.{dump_line}
 use Rattle.dump_stream.specs.Heads.{head_line}
-use Rattle.dump_stream.proofs.DumpLaws.{entries_of_file, line_is}
+use Rattle.dump_stream.proofs.DumpLaws.{line_is}
 use Rattle.dump_stream.proofs.SoundLaws.{cut_in_line, put_behind}
 use Rattle.dump_stream.proofs.putting.dump_table.Goals as goal
+use Rattle.placement_model.proofs.EntryLaws.{entries-read_at}
 
 pub put_objects-requires-clause-within : goal.put_objects-requires-clause-within
 put_objects-requires-clause-within g c = λ told.
@@ -57,5 +58,5 @@ returns-clause-puts g c = λ told.
     (subst (λ (es : List Entry). PutsSound (digests_seen c.args.version c.args.table.now.digests) es
     (g.O.Sink.state c.put_whole.new.sink) (g.O.Sink.state c.put_objects.new.output) c.put_objects.result)
     (ap (λ (b : ℕ). read_entries b file spots) c.head_len.ensures
-    ∙ sym (entries_of_file base file spots c.requires.table.now_named))
+    ∙ sym (entries-read_at base file spots c.requires.table.now_named))
     (c.put_objects.ensures.puts told))

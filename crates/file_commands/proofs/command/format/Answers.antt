@@ -8,8 +8,9 @@ use Rattle.file_commands.specs.Formatting.{IsDone, IsFormatted}
 use Rattle.command_face.specs.declared.stop.StopReason.TheVariants as stop
 use Rattle.file_commands.specs.Formatting.{format_answer}
 use Rattle.file_commands.proofs.AnswerLaws.{stopped}
-use Rattle.file_commands.proofs.Formatting.{formats_later, formats_now, formatted_now, untouched}
+use Rattle.file_commands.proofs.Formatting.{formats_later, formats_now, formatted_now}
 use Rattle.file_commands.proofs.command.format.Goals as goal
+use Rattle.disk_face.proofs.FrameLaws.{untouched}
 
 pub returns-in_err-map_err-clause-formats : goal.returns-in_err-map_err-clause-formats
 returns-in_err-map_err-clause-formats g c = λ told empty.

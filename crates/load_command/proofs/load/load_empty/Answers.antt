@@ -19,16 +19,8 @@ returns-in-Ok-clause-loads g c =
     subst (λ (bytes : List ℕ). IsTrue out.tells → Puts out.given put.given bytes c.put_whole.result) line
     c.put_whole.ensures.put in
     loads_done c.args.k c.args.names (s c.args.disk.now) (s c.load.new.disk) (i c.args.input.now)
-    (i c.load.new.input) c.requires.empty (record {
-      answers = c.in-Ok.ensures.answers;
-      whole = c.in-Ok.ensures.whole;
-      file = c.in-Ok.ensures.file;
-      images = c.in-Ok.ensures.images;
-      rests = c.in-Ok.ensures.rests;
-      early = c.in-Ok.ensures.early;
-      causes = c.in-Ok.ensures.causes;
-      frame = c.in-Ok.ensures.frame;
-    }) (c.load.new.input ≡ c.args.input.now) out put c.put_whole.ensures.told c.put_whole.result
+    (i c.load.new.input) c.requires.empty (search (c.in-Ok.ensures))
+    (c.load.new.input ≡ c.args.input.now) out put c.put_whole.ensures.told c.put_whole.result
     c.put_whole.ensures.only puts c.put_whole.ensures.cause
 
 pub returns-in-Err-clause-loads : goal.returns-in-Err-clause-loads
@@ -40,13 +32,5 @@ returns-in-Err-clause-loads g c =
     (devices (s c.load.new.disk) (g.O.Sink.state c.args.output.now)) (i c.args.input.now) (i c.load.new.input)
     (c.load.new.input ≡ c.args.input.now) (Err w)) (sym c.reason_of.ensures)
     (loads_refused c.args.k c.args.names (s c.args.disk.now) (s c.load.new.disk) (i c.args.input.now)
-    (i c.load.new.input) c.requires.empty c.in-Err.fault (record {
-      answers = c.in-Err.ensures.answers;
-      whole = c.in-Err.ensures.whole;
-      file = c.in-Err.ensures.file;
-      images = c.in-Err.ensures.images;
-      rests = c.in-Err.ensures.rests;
-      early = c.in-Err.ensures.early;
-      causes = c.in-Err.ensures.causes;
-      frame = c.in-Err.ensures.frame;
-    }) (c.load.new.input ≡ c.args.input.now) (g.O.Sink.state c.args.output.now))
+    (i c.load.new.input) c.requires.empty c.in-Err.fault (search (c.in-Err.ensures))
+    (c.load.new.input ≡ c.args.input.now) (g.O.Sink.state c.args.output.now))

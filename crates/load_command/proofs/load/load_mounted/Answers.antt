@@ -1,8 +1,8 @@
 -- Where the file is empty the dump is loaded.
 use Rattle.std.proofs.Common.{◌≡◌}
-use Rattle.load_command.proofs.FaultLaws.{untouched}
 use Rattle.load_command.proofs.StepLaws.{loading_later}
 use Rattle.load_command.proofs.load.load_mounted.Goals as goal
+use Rattle.disk_face.proofs.FrameLaws.{untouched}
 
 pub returns-clause-loads : goal.returns-clause-loads
 returns-clause-loads g c =

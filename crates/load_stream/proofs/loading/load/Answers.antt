@@ -52,8 +52,8 @@ returns-clause-whole g c =
     c.fill_new.new.ahead (i c.fill_new.new.input).left (g.D.Disk.state c.args.disk.now)
     (g.D.Disk.state c.fill_new.new.disk) c.fill_new.result c.fill_new.ensures.read
 
-pub returns-clause-file : goal.returns-clause-file
-returns-clause-file g c told =
+pub returns-clause-left : goal.returns-clause-left
+returns-clause-left g c told =
     let i = g.I.Source.state in
     let p = c.in_ok-plan.plan in
     let before = (i c.args.input.now).left in
@@ -62,24 +62,17 @@ returns-clause-file g c told =
     let line : IsTrue (i c.args.input.now).tells
     → before ≡ head_line CLASSES p.head.count (volumes_of_head p.head) ++ 10 ∷ mid =
     λ t. sym (ap (λ (xs : List ℕ). xs ++ before) c.new-ahead.ensures) ∙ c.in_ok-plan.ensures.line t in
-    file_loaded c.args.k c.args.names p c.in_ok-plan.ensures.plan c.in_ok-plan.ensures.head
-    (i c.args.input.now).tells (i c.read_plan.new.input).tells c.read_plan.ensures.cause.told before mid line
-    after (i c.fill_new.new.input).left (g.D.Disk.state c.fill_new.new.disk).file c.fill_new.result
-    c.fill_new.ensures.only (c.fill_new.ensures.file told)
-
-pub returns-clause-images : goal.returns-clause-images
-returns-clause-images g c told only =
-    let i = g.I.Source.state in
-    let p = c.in_ok-plan.plan in
-    let before = (i c.args.input.now).left in
-    let mid = c.read_plan.new.ahead ++ (i c.read_plan.new.input).left in
-    let after = c.fill_new.new.ahead ++ (i c.fill_new.new.input).left in
-    let line : IsTrue (i c.args.input.now).tells
-    → before ≡ head_line CLASSES p.head.count (volumes_of_head p.head) ++ 10 ∷ mid =
-    λ t. sym (ap (λ (xs : List ℕ). xs ++ before) c.new-ahead.ensures) ∙ c.in_ok-plan.ensures.line t in
-    Leaves-weaken _ (image_loaded c.args.k c.args.names p c.in_ok-plan.ensures.plan c.in_ok-plan.ensures.head
-    (i c.args.input.now).tells (i c.read_plan.new.input).tells c.read_plan.ensures.cause.told before mid line
-    after (i c.fill_new.new.input).left) (c.fill_new.ensures.images told only)
+    record {
+      file = file_loaded c.args.k c.args.names p c.in_ok-plan.ensures.plan c.in_ok-plan.ensures.head
+          (i c.args.input.now).tells (i c.read_plan.new.input).tells c.read_plan.ensures.cause.told before mid
+          line after (i c.fill_new.new.input).left (g.D.Disk.state c.fill_new.new.disk).file c.fill_new.result
+          c.fill_new.ensures.only (c.fill_new.ensures.file told);
+      images = λ only. Leaves-weaken _ (image_loaded c.args.k c.args.names p c.in_ok-plan.ensures.plan
+          c.in_ok-plan.ensures.head (i c.args.input.now).tells (i c.read_plan.new.input).tells
+          c.read_plan.ensures.cause.told before mid line after (i c.fill_new.new.input).left)
+          (c.fill_new.ensures.images told only);
+      rests = c.fill_new.ensures.rests told;
+    }
 
 pub returns-in_err-so_far-clause-answers : goal.returns-in_err-so_far-clause-answers
 returns-in_err-so_far-clause-answers g c told =

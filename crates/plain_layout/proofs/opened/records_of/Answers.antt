@@ -1,7 +1,7 @@
 use Rattle.std.proofs.Common.{◌*◌, ap, arith}
 use Rattle.slot_codec.proofs.CapLaws.{records_fit}
-use Rattle.slot_codec.proofs.SlotLaws.{slot_end}
 use Rattle.plain_layout.proofs.opened.records_of.Goals as goal
+use Rattle.slot_codec.proofs.ChoiceLaws.{slot_low}
 
 -- the records lie within the slot's bytes for them
 pub overflow_mul-len : goal.overflow_mul-len
@@ -23,7 +23,7 @@ read-requires-clause-within g c = λ told.
       arith,
       records_fit names h.version h.count c.requires.count,
       ap (λ l. l * h.count) c.record_len-len.ensures.value,
-      slot_end names c.args.found.now.slot c.requires.slot,
+      slot_low names c.args.found.now.slot c.requires.slot,
       c.slot_at.ensures,
       c.requires.long,
       c.deref_mut.ensures.len,

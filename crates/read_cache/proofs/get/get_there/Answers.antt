@@ -2,8 +2,7 @@ use Rattle.std.specs.Prelude.{is_some, refl}
 use Rattle.std.proofs.Common.{ap, arith, sym}
 use Rattle.std.proofs.lemmas.Bool.{lt-ltb}
 use Rattle.std.specs.FinMap as fin
-use Rattle.store_core.specs.Answers.{size_at}
-use Rattle.store_core.proofs.ChangingLaws.{unchanged_itself}
+use Rattle.store_answers.specs.Answers.{size_at}
 use Rattle.store_model.specs.Connection.{state_of}
 use Rattle.store_model.specs.States.{object_in}
 use Rattle.read_cache.specs.Coherence.{IsHeld}
@@ -11,6 +10,7 @@ use Rattle.read_cache.specs.Lists.{longest}
 use Rattle.read_cache.proofs.GetLaws.{found_now, held_is, hit_got, hit_new, hit_object, hit_old, hit_puts, lists_hit, lists_passed, long_now, read_put, read_size}
 use Rattle.read_cache.proofs.ListLaws.{found_pair}
 use Rattle.read_cache.proofs.get.get_there.Goals as goal
+use Rattle.disk_face.proofs.FrameLaws.{unchanged_itself}
 
 pub give-requires : goal.give-requires
 give-requires g c = record {

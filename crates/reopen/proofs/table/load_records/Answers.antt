@@ -1,8 +1,8 @@
 use Rattle.std.proofs.Common.{arith}
 use Rattle.slot_codec.proofs.CapLaws.{cap-low, records_fit}
-use Rattle.slot_codec.proofs.SlotLaws.{slot_end}
 use Rattle.std.proofs.lemmas.Grind.{common_steps}
 use Rattle.reopen.proofs.table.load_records.Goals as goal
+use Rattle.slot_codec.proofs.ChoiceLaws.{slot_low}
 
 pub returns : goal.returns
 returns g c = grind (arith, common_steps)
@@ -16,7 +16,7 @@ set_all-requires-clause-small g c =
     omega (
       arith,
       records_fit names h.version h.count f.count,
-      slot_end names c.args.found.now.slot f.slot,
+      slot_low names c.args.found.now.slot f.slot,
       c.slot_at.ensures,
       f.block.names_high,
     )
@@ -29,7 +29,7 @@ set_all-requires-clause-within g c = λ told.
     omega (
       arith,
       records_fit names h.version h.count f.count,
-      slot_end names c.args.found.now.slot f.slot,
+      slot_low names c.args.found.now.slot f.slot,
       c.slot_at.ensures,
       c.requires.long told,
     )

@@ -74,14 +74,7 @@ returns-clause-starts g c =
     let joins : IsWith c.args.name.now (record {
       place = c.numbers-found.result.reach - c.args.size;
       size = c.args.size;
-    }) c.set-key.result e c.set-key.new.self = record {
-      now = c.set-key.ensures.now;
-      kept = c.set-key.ensures.kept;
-      keys = c.set-key.ensures.keys;
-      names = c.set-key.ensures.names;
-      cap = c.set-key.ensures.rest.cap;
-      table = c.set-key.ensures.table;
-    } in
+    }) c.set-key.result e c.set-key.new.self = search (c.set-key.ensures, c.set-key.ensures.rest) in
     record {
       key = c.set-key.result;
       joins = joins;
@@ -104,14 +97,7 @@ returns-clause-keeps g c =
     let joins : IsWith c.args.name.now (record {
       place = c.numbers-found.result.reach - c.args.size;
       size = c.args.size;
-    }) c.set-key.result e c.set-key.new.self = record {
-      now = c.set-key.ensures.now;
-      kept = c.set-key.ensures.kept;
-      keys = c.set-key.ensures.keys;
-      names = c.set-key.ensures.names;
-      cap = c.set-key.ensures.rest.cap;
-      table = c.set-key.ensures.table;
-    } in
+    }) c.set-key.result e c.set-key.new.self = search (c.set-key.ensures, c.set-key.ensures.rest) in
     let is = items_waiting c.new.result.course course c.requires.new joins c.requires.some c.requires.high in
     let holds = start_holds c.requires.start c.args.size c.requires.small in
     let begins = start_waits c.requires.start c.args.size c.requires.small c.numbers-found.result found

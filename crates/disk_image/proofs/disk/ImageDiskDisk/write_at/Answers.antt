@@ -5,9 +5,10 @@ use Rattle.byte_ranges.specs.Ranges.{overwritten}
 use Rattle.disk_history.specs.Changes.RecordedCall.{Wrote}
 use Rattle.disk_image.specs.Notings.{Noting, content}
 use Rattle.disk_image.proofs.FrameLaws.{after_no_write, after_write, made_is, refused_is}
-use Rattle.disk_image.proofs.LogLaws.{changed_within, noting_made, noting_refused}
+use Rattle.disk_image.proofs.LogLaws.{noting_made, noting_refused}
 use Rattle.disk_image.proofs.Seen.{file_in, seen_of}
 use Rattle.disk_image.proofs.disk.ImageDiskDisk.write_at.Goals as goal
+use Rattle.disk_history.proofs.HistoryLaws.{changed_within}
 
 pub invariant_of-self : goal.invariant_of-self
 invariant_of-self c =

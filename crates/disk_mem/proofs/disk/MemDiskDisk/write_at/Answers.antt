@@ -4,8 +4,8 @@ use Rattle.byte_ranges.specs.Ranges.{SameOutside}
 use Rattle.disk_history.specs.Changes.RecordedCall.{Wrote}
 use Rattle.disk_history.specs.Histories.{History, MayLeave, done}
 use Rattle.disk_mem.proofs.CallLaws.{elapsed_done, elapsed_undone, failed, held}
-use Rattle.disk_history.proofs.HistoryLaws.{Follows_write}
-use Rattle.disk_mem.proofs.Steps.{holds_done, holds_undone, changed_within}
+use Rattle.disk_history.proofs.HistoryLaws.{Follows_write, changed_within}
+use Rattle.disk_mem.proofs.Steps.{holds_done, holds_undone}
 use Rattle.disk_mem.proofs.disk.MemDiskDisk.write_at.Goals as goal
 
 pub invariant_of-self : goal.invariant_of-self

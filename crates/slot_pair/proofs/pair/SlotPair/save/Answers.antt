@@ -2,8 +2,8 @@ use Rattle.std.proofs.Common.{◌∙◌, ◌-◌, ◌≤◌, IsTrue, Ok, ap, ari
 use Rattle.std.proofs.lemmas.Grind.{common_steps}
 use Rattle.slot_codec.specs.Choice.{InUse}
 use Rattle.slot_codec.proofs.CapLaws.{records_fit}
-use Rattle.slot_codec.proofs.ChoiceLaws.{in_use_long}
-use Rattle.slot_codec.proofs.SlotLaws.{other_low, slot_end}
+use Rattle.slot_codec.proofs.ChoiceLaws.{in_use_long, slot_low}
+use Rattle.slot_codec.proofs.SlotLaws.{other_low}
 use Rattle.slot_codec.specs.Spelling.{cap, head_len}
 use Rattle.slot_pair.specs.Finding.{in_use_of}
 use Rattle.slot_pair.specs.Saves.{IsSaveDone, SaveLeaves}
@@ -66,7 +66,7 @@ write_table-requires-clause-fits g c =
     omega (
       arith,
       records_fit u.block.names v (length rs) few,
-      slot_end u.block.names (1 - u.slot) (other_low u.slot),
+      slot_low u.block.names (1 - u.slot) (other_low u.slot),
       c.slot_at.ensures,
       c.self.invariant.0.names_high,
     )
@@ -83,7 +83,7 @@ write_table-requires-clause-within g c = λ told.
     omega (
       arith,
       records_fit u.block.names v (length rs) few,
-      slot_end u.block.names (1 - u.slot) (other_low u.slot),
+      slot_low u.block.names (1 - u.slot) (other_low u.slot),
       c.slot_at.ensures,
       in_use_long _ _ (c.requires.in_use at_first),
       ap (λ (x : InUse). head_len x.block.names) c.self.view_is,

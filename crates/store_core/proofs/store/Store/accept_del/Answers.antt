@@ -5,25 +5,18 @@ use Rattle.std.proofs.lemmas.Grind.{common_steps}
 use Rattle.std.specs.FinMap as fin
 use Rattle.slot_codec.specs.Names.{is_name}
 use Rattle.map_model.specs.Requests as ask
-use Rattle.store_core.specs.declared.answers.Refusal.{Refusal}
-use Rattle.store_core.specs.declared.answers.Refusal.TheVariants as why
-use Rattle.store_core.specs.Answers.{refused_by}
-use Rattle.store_core.specs.Plans.{AcceptsName}
+use Rattle.store_answers.specs.declared.answers.Refusal.{Refusal}
+use Rattle.store_answers.specs.declared.answers.Refusal.TheVariants as why
+use Rattle.store_answers.specs.Answers.{refused_by}
+use Rattle.store_answers.specs.Plans.{AcceptsName}
 use Rattle.store_model.specs.Connection.{StoreValue}
 use Rattle.store_model.specs.Quiet.{del_of}
 use Rattle.store_core.proofs.LentLaws.{lent_rest}
 use Rattle.store_core.proofs.store.Store.accept_del.Goals as goal
+use Rattle.store_answers.proofs.PlanLaws.{answered}
 
 pub returns-in_err-name : goal.returns-in_err-name
 returns-in_err-name g c = grind (arith, common_steps)
-
--- a name that was answered
-answered : (broken named : Bool) (got name : List ℕ)
-    → Ok got ≡ (if broken then Err why.Broken else if named then Ok name else Err why.BadName)
-    → (broken ≡ false) × (named ≡ true) × (got ≡ name)
-answered true named got name is = absurd (cc)
-answered false false got name is = absurd (cc)
-answered false true got name is = (refl, refl, cc)
 
 -- a removal of a live name is refused only once the sequence is worn
 accepts : (s : StoreValue) (name : List ℕ) (result : Result (List ℕ) Refusal) → s.is_broken ≡ false

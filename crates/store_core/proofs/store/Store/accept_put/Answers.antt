@@ -6,31 +6,24 @@ use Rattle.std.specs.FinMap as fin
 use Rattle.size_class.specs.declared.TheConstants.{SIZE_MAX}
 use Rattle.slot_codec.specs.Names.{is_name}
 use Rattle.map_model.specs.Requests as ask
-use Rattle.store_core.specs.declared.answers.Refusal.{Refusal}
-use Rattle.store_core.specs.declared.answers.Refusal.TheVariants as why
-use Rattle.store_core.specs.Answers.{refused_by}
+use Rattle.store_answers.specs.declared.answers.Refusal.{Refusal}
+use Rattle.store_answers.specs.declared.answers.Refusal.TheVariants as why
+use Rattle.store_answers.specs.Answers.{refused_by}
 use Rattle.extent_table.specs.Extents.{Spots}
 use Rattle.store_model.specs.Connection.{StoreValue, live_cap}
-use Rattle.store_core.specs.Plans.{AcceptsName}
+use Rattle.store_answers.specs.Plans.{AcceptsName}
 use Rattle.store_model.specs.Quiet.{put_of}
-use Rattle.store_core.proofs.InsideLaws.{lent, opened}
-use Rattle.store_core.proofs.LentLaws.{lent_rest}
+use Rattle.store_answers.proofs.InsideLaws.{opened}
+use Rattle.store_core.proofs.LentLaws.{lent, lent_rest}
 use Rattle.store_core.proofs.store.Store.accept_put.Goals as goal
 use Rattle.store_core.proofs.store.Store.accept_put.Goals.{else-is_none-via-then-is_none+else-not-room, else-is_none-via-else-is_none}
+use Rattle.store_answers.proofs.PlanLaws.{answered}
 
 pub returns-in_err-name : goal.returns-in_err-name
 returns-in_err-name g c = grind (arith, common_steps)
 
 pub returns-then-bytes-gt-SIZE_MAX : goal.returns-then-bytes-gt-SIZE_MAX
 returns-then-bytes-gt-SIZE_MAX g c = grind (arith, common_steps)
-
--- a name that was answered
-answered : (broken named : Bool) (got name : List ℕ)
-    → Ok got ≡ (if broken then Err why.Broken else if named then Ok name else Err why.BadName)
-    → (broken ≡ false) × (named ≡ true) × (got ≡ name)
-answered true named got name is = absurd (cc)
-answered false false got name is = absurd (cc)
-answered false true got name is = (refl, refl, cc)
 
 with_false : (b : Bool) → (b && false) ≡ false
 with_false true = refl

@@ -4,8 +4,8 @@ use Rattle.map_model.specs.Maps.{Map}
 use Rattle.store_model.specs.Connection.{StoreValue}
 use Rattle.store_model.specs.Digested.{IsDigestFor}
 use Rattle.store_model.proofs.DigestLaws.{digest_given}
-use Rattle.store_core.specs.Inside.{kept_of}
-use Rattle.store_core.proofs.InsideLaws.{beside, lent_is}
+use Rattle.store_answers.specs.Inside.{kept_of}
+use Rattle.store_core.proofs.LentLaws.{beside, lent_is}
 use Rattle.store_core.proofs.store.Store.own_digest.Goals as goal
 
 pub returns : goal.returns

@@ -1,18 +1,15 @@
-use Rattle.std.specs.Prelude.{◌≡◌, Some, None}
+use Rattle.std.specs.Prelude.{◌≡◌, None}
 use Rattle.std.proofs.Common.{inl, inr, lit<, refl, rules}
 use Rattle.flush_run.specs.declared.whole.Halted.{Halted}
-use Rattle.store_core.specs.declared.answers.Refusal.TheVariants as why
-use Rattle.store_core.proofs.StepExitLaws.{step_failed, step_more, step_moved_answers, step_moved_going, step_settled_answers, step_settled_whole, step_start}
-use Rattle.store_core.proofs.SteppedLaws.{steps_from}
+use Rattle.store_answers.specs.declared.answers.Refusal.TheVariants as why
+use Rattle.store_answers.proofs.StepExitLaws.{step_failed, step_more, step_moved_answers, step_moved_going, step_settled_answers, step_settled_whole, step_start}
+use Rattle.store_core.proofs.LentLaws.{steps_from}
 use Rattle.store_core.proofs.store.Store.step.Goals as goal
 
 pub step-requires : goal.step-requires
 step-requires g c =
-    let v = c.unwrap-phase.result in
-    let hands = c.deref_mut-hands.result.now in
-    let flush : c.self.inside.flush ≡ Some v = search rules in
-    let x = steps_from c.self.inside c.args.self.now v hands flush c.self.view_is c.self.invariant
-    c.deref_mut-hands.ensures.value in (
+    let x = steps_from c.self.inside c.args.self.now c.unwrap-phase.result c.deref_mut-hands.result.now
+    (search rules) c.self.view_is c.self.invariant c.deref_mut-hands.ensures.value in (
       lit< tt,
       (
         lit< tt,
@@ -33,22 +30,16 @@ step-requires g c =
 
 pub invariant_of-self : goal.invariant_of-self
 invariant_of-self g c =
-    let v = c.unwrap-phase.result in
-    let hands = c.deref_mut-hands.result.now in
-    let flush : c.self.inside.flush ≡ Some v = search rules in
-    let x = steps_from c.self.inside c.args.self.now v hands flush c.self.view_is c.self.invariant
-    c.deref_mut-hands.ensures.value in
+    let x = steps_from c.self.inside c.args.self.now c.unwrap-phase.result c.deref_mut-hands.result.now
+    (search rules) c.self.view_is c.self.invariant c.deref_mut-hands.ensures.value in
     let e = c.in-Ok.ensures in
     step_moved_going x c.requires.half c.step.new.hands (g.D.Disk.state c.step.new.disk) c.step.ensures.left
     Halted c.in-Ok.stepped e.made e.goes c.in-Moved.phase c.in-Moved.is e.keeps e.paid
 
 pub returns-in-Moved : goal.returns-in-Moved
 returns-in-Moved g c =
-    let v = c.unwrap-phase.result in
-    let hands = c.deref_mut-hands.result.now in
-    let flush : c.self.inside.flush ≡ Some v = search rules in
-    let x = steps_from c.self.inside c.args.self.now v hands flush c.self.view_is c.self.invariant
-    c.deref_mut-hands.ensures.value in
+    let x = steps_from c.self.inside c.args.self.now c.unwrap-phase.result c.deref_mut-hands.result.now
+    (search rules) c.self.view_is c.self.invariant c.deref_mut-hands.ensures.value in
     let e = c.in-Ok.ensures in
     let all = step_moved_answers x c.requires.half c.step.new.hands (g.D.Disk.state c.step.new.disk)
     c.step.ensures.left Halted c.in-Ok.stepped e.made e.goes c.in-Moved.phase c.in-Moved.is e.keeps
@@ -69,11 +60,8 @@ returns-in-Moved g c =
 
 pub invariant_of-self-in-Settled : goal.invariant_of-self-in-Settled
 invariant_of-self-in-Settled g c =
-    let v = c.unwrap-phase.result in
-    let hands = c.deref_mut-hands.result.now in
-    let flush : c.self.inside.flush ≡ Some v = search rules in
-    let x = steps_from c.self.inside c.args.self.now v hands flush c.self.view_is c.self.invariant
-    c.deref_mut-hands.ensures.value in
+    let x = steps_from c.self.inside c.args.self.now c.unwrap-phase.result c.deref_mut-hands.result.now
+    (search rules) c.self.view_is c.self.invariant c.deref_mut-hands.ensures.value in
     let e = c.in-Ok.ensures in
     let none : c.take.new.self ≡ None = search rules in
     step_settled_whole x c.requires.half c.step.new.hands (g.D.Disk.state c.step.new.disk) c.step.ensures.left
@@ -81,11 +69,8 @@ invariant_of-self-in-Settled g c =
 
 pub returns-in-Settled : goal.returns-in-Settled
 returns-in-Settled g c =
-    let v = c.unwrap-phase.result in
-    let hands = c.deref_mut-hands.result.now in
-    let flush : c.self.inside.flush ≡ Some v = search rules in
-    let x = steps_from c.self.inside c.args.self.now v hands flush c.self.view_is c.self.invariant
-    c.deref_mut-hands.ensures.value in
+    let x = steps_from c.self.inside c.args.self.now c.unwrap-phase.result c.deref_mut-hands.result.now
+    (search rules) c.self.view_is c.self.invariant c.deref_mut-hands.ensures.value in
     let e = c.in-Ok.ensures in
     let none : c.take.new.self ≡ None = search rules in
     let all = step_settled_answers x c.requires.half c.step.new.hands (g.D.Disk.state c.step.new.disk)
@@ -107,11 +92,8 @@ returns-in-Settled g c =
 
 pub returns-in-Err : goal.returns-in-Err
 returns-in-Err g c =
-    let v = c.unwrap-phase.result in
-    let hands = c.deref_mut-hands.result.now in
-    let flush : c.self.inside.flush ≡ Some v = search rules in
-    let x = steps_from c.self.inside c.args.self.now v hands flush c.self.view_is c.self.invariant
-    c.deref_mut-hands.ensures.value in
+    let x = steps_from c.self.inside c.args.self.now c.unwrap-phase.result c.deref_mut-hands.result.now
+    (search rules) c.self.view_is c.self.invariant c.deref_mut-hands.ensures.value in
     let e = c.in-Err.ensures in
     let none : c.take.new.self ≡ None = search rules in
     let all = step_failed x c.requires.half c.step.new.hands (g.D.Disk.state c.step.new.disk)

@@ -22,11 +22,6 @@ returns g c =
     (g.met.D.Disk.lawful c.args.disk.now))
     c.keep-answer.ensures.coherent
     (λ whole. c.is_broken.ensures.sound (c.is_broken.ensures.same ∙ whole))
-    c.keep-answer.result
-    (record {
-      answer = c.keep-answer.ensures.answer;
-      refused = c.keep-answer.ensures.refused;
-      kept = c.keep-answer.ensures.kept;
-    })
+    c.keep-answer.result c.keep-answer.ensures.keep
     c.keep-answer.ensures.step c.keep-answer.ensures.over c.keep-answer.ensures.broken
     c.keep-answer.ensures.list)

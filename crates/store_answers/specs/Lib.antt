@@ -1,0 +1,12 @@
+pub mod Inside
+pub mod Answers
+pub mod Plans
+pub mod Changes
+pub mod Keeps
+pub mod Reads
+pub mod Readings
+pub mod Flushes
+pub mod Changing
+pub mod Upgrades
+pub mod Begins
+pub mod Steps
