@@ -2,7 +2,7 @@
 
    WAY is library, lmdb or sqlite. PATH is a file that isn't there. PUTS objects of SIZE bytes are put under names that
    are drawn of NAMES, with a checkpoint, which is a commit that is synced, after every EVERY of them; then GETS objects
-   of drawn names are copied out. Printed are two lines, `put SECONDS` and `get SECONDS`. bin/embed_speeds runs it. */
+   of drawn names are copied out. Printed are two lines, `put SECONDS` and `get SECONDS`. measure/embed_speeds runs it. */
 #include "costore_file.h"
 
 #include <stdio.h>

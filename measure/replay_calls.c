@@ -2,7 +2,7 @@
    waits until as many bytes came as were written. The first word names the list, the second the file.
 
        strace -e trace=pwrite64,ftruncate,fsync,fdatasync -o calls PROGRAM load f 9 64 <dump
-       gcc -O2 -o replay_calls bin/replay_calls.c && ./replay_calls calls g <dump
+       gcc -O2 -o replay_calls measure/replay_calls.c && ./replay_calls calls g <dump
 */
 #define _GNU_SOURCE
 #include <fcntl.h>

@@ -1,4 +1,4 @@
-/* Writes blocks through the layer that docs/EMBED.md shows, and reads them again: blocks FILE. bin/check_library makes
+/* Writes blocks through the layer that docs/EMBED.md shows, and reads them again: blocks FILE. check/library makes
    blocks.h of that page. */
 #include "blocks.h"
 

@@ -1,7 +1,7 @@
 /* Puts objects into an empty LMDB by one transaction, with its syncs, and prints the seconds that it takes. The words are
    the file, how many objects, and how many bytes each has.
 
-       gcc -O2 -o one_transaction bin/one_transaction.c -llmdb && ./one_transaction f 1000 4096
+       gcc -O2 -o one_transaction measure/one_transaction.c -llmdb && ./one_transaction f 1000 4096
 */
 #include <lmdb.h>
 #include <stdio.h>

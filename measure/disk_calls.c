@@ -2,7 +2,7 @@
    a scratch file where it runs, which is removed. It prints for each size the size, the pieces, and the microseconds of
    each kind, as `bench disk` of crates/bench does (docs/PERFORMANCE.md). The word is the number of pieces.
 
-       gcc -O2 -o disk_calls bin/disk_calls.c && ./disk_calls 10000
+       gcc -O2 -o disk_calls measure/disk_calls.c && ./disk_calls 10000
 */
 #define _GNU_SOURCE
 #include <fcntl.h>

@@ -2,7 +2,7 @@
    that grows. It prints the microseconds of a call (docs/PERFORMANCE.md). The scratch file stands where it runs, and is
    removed. The word is the number of calls.
 
-       gcc -O2 -o sync_calls bin/sync_calls.c && ./sync_calls 100
+       gcc -O2 -o sync_calls measure/sync_calls.c && ./sync_calls 100
 */
 #define _GNU_SOURCE
 #include <fcntl.h>

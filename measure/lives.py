@@ -1,4 +1,4 @@
-"""Drawn requests of a session, the map that they make, and what a file of the store has. bin/full_size uses it."""
+"""Drawn requests of a session, the map that they make, and what a file of the store has. measure/full_size uses it."""
 import functools
 import hashlib
 import os
@@ -70,7 +70,7 @@ def replies(output):
 
 @functools.lru_cache(maxsize=4096)
 def hashed_object(name, body):
-    """The hash of an object, as bin/crash_images.c has it: FNV-1a over its record's name and size, and its bytes."""
+    """The hash of an object, as measure/crash_images.c has it: FNV-1a over its record's name and size, and its bytes."""
     value = BASIS
     for byte in bytes([len(name)]) + name.ljust(63, b'\0') + len(body).to_bytes(8, 'little') + body:
         value = (value ^ byte) * PRIME & M64
