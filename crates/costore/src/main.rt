@@ -9,7 +9,7 @@ use costore_top::{HELP, Outcome, costore, may_change};
 use disk_file::{
     Cause, FileBay, StdSink, StdSource, Use, hold_numbers, is_own_errors, is_own_stream,
 };
-use error_lines::{Failed, Unkept, Why};
+use error_lines::{Failed, Typed, Unkept, Why};
 use progress_lines::{CountedSink, CountedSource, Pace, Stream, is_terminal};
 use std::alloc::{AllocError, Global};
 use std::env;
@@ -17,7 +17,7 @@ use std::io::{self, ErrorKind};
 use std::process::ExitCode;
 use watched_streams::{Asked, Backs, Heard};
 
-/// The status of a disk that failed: the numbers of the standard streams couldn't be held, and so no
+/// The status of a disk that failed: the numbers of the standard streams couldn't be reserved, so no
 /// file may be opened.
 const DISK_FAULT: u8 = 7;
 
@@ -27,17 +27,17 @@ const DONE: u8 = 0;
 /// The status of a call that found no object of a name.
 const MISSING: u8 = 6;
 
-/// The status of an output that took not all bytes.
+/// The status of an output that failed.
 const SINK_FAULT: u8 = 9;
 
-/// The status where there is no memory for the words.
+/// The status when there is no memory for the command line.
 const NO_MEMORY: u8 = 10;
 
 /// The commands that read their input to its end, however long it is.
 const READERS: &[&str] = &["run", "load", "batch", "desk"];
 
-/// The commands that put all objects of a file.
-const PUTTERS: &[&str] = &["dump"];
+/// The commands that print all objects of a file.
+const PRINTERS: &[&str] = &["dump"];
 
 fn main(rt: HostRuntime) -> ExitCode {
     let _held = match hold_numbers(&rt) {
@@ -51,14 +51,14 @@ fn main(rt: HostRuntime) -> ExitCode {
     match run(&rt) {
         Ok(outcome) => ended(&outcome),
         Err(AllocError) => {
-            let _ = eprintln!(&rt; "costore: memory: there is too little for the words");
+            let _ = eprintln!(&rt; "costore: memory: out of memory for the command line");
             ExitCode::from(NO_MEMORY)
         }
     }
 }
 
-/// Does what the command line asks, with a file that is only read where the words ask for no more, and that
-/// no standard stream writes.
+/// Does what the command line asks. Its file is opened for reading alone unless the command changes it, and
+/// is refused if it is a standard stream too.
 fn run(rt: &HostRuntime) -> Result<Outcome, AllocError> {
     let mut are_text = true;
     let words = match env::args(rt) {
@@ -77,6 +77,7 @@ fn run(rt: &HostRuntime) -> Result<Outcome, AllocError> {
     if is_own_stream(rt, file_of(&texts), usage) {
         return Ok(refuse_own(rt, file_of(&texts)));
     }
+    greet(rt, &texts);
     Ok(call(rt, &texts, are_text))
 }
 
@@ -89,7 +90,11 @@ fn call(rt: &HostRuntime, texts: &[&str], are_text: bool) -> Outcome {
     };
     let backs = Backs::new();
     let read = Pace::new(rt, "read", is_watched(rt, texts, READERS, Stream::Input));
-    let put = Pace::new(rt, "put", is_watched(rt, texts, PUTTERS, Stream::Output));
+    let put = Pace::new(
+        rt,
+        "written",
+        is_watched(rt, texts, PRINTERS, Stream::Output),
+    );
     let mut input = Asked::new(CountedSource::new(StdSource::new(rt.stdin()), read), &backs);
     let mut output = Heard::new(CountedSink::new(StdSink::new(rt.stdout()), put), &backs);
     let outcome = costore(rt.alloc(), texts, &mut bay, &mut input, &mut output);
@@ -113,13 +118,22 @@ fn call(rt: &HostRuntime, texts: &[&str], are_text: bool) -> Outcome {
         tell_unkept(rt, file_of(texts), &outcome, output.unkept());
     }
     if asks_for_help(texts) {
-        put_page(rt);
+        write_page(rt);
     }
     outcome
 }
 
-/// Refuses a file that is also what a standard stream reads or writes: nothing is put to it, and so no
-/// fault line either, and the line on standard error only where that isn't the file.
+/// Tells someone who types the requests of a session how it ends, since a mistyped line ends it too.
+fn greet(rt: &HostRuntime, words: &[&str]) {
+    let file = file_of(words);
+    if serves(words) && words.len() == 2 && !file.is_empty() && is_terminal(rt, Stream::Input) {
+        let typed = Typed(file);
+        let _ = eprintln!(rt; "costore: {typed}");
+    }
+}
+
+/// Refuses a file that is also what a standard stream reads or writes: nothing is written to it, so no
+/// fault line either, and the line on standard error only if that isn't the file.
 fn refuse_own(rt: &HostRuntime, file: &str) -> Outcome
     ensures { result ≡ record { status = 7; done = 0; kept_done = 0; kept_turn = 0 } }
 {
@@ -135,17 +149,17 @@ fn refuse_own(rt: &HostRuntime, file: &str) -> Outcome
     }
 }
 
-/// Puts a line on standard error, but where the call ended well or found no object of a name. Where
-/// that fails nothing is said.
+/// Writes a line to standard error, unless the call succeeded or found no object of a name. A failure to
+/// write it is ignored.
 fn tell(rt: &HostRuntime, why: Why<'_>) {
     if why.status != DONE && why.status != MISSING {
         let _ = eprintln!(rt; "costore: {why}");
     }
 }
 
-/// Puts a line on standard error where a session did what no acknowledged checkpoint holds: so many
-/// requests were answered `ok` since. Where the disk or the output failed, one that wasn't
-/// acknowledged may hold it.
+/// Writes a line to standard error if a session made changes that no acknowledged checkpoint holds: so
+/// many requests were answered `ok` since. If the disk or the output failed, an unacknowledged checkpoint
+/// may hold them.
 fn tell_unkept(rt: &HostRuntime, file: &str, outcome: &Outcome, requests: u64) {
     if requests > 0 {
         let unkept = Unkept {
@@ -163,8 +177,8 @@ fn file_of<'a>(words: &[&'a str]) -> &'a str {
     words.get(1).copied().unwrap_or("")
 }
 
-/// Whether it is said how far a call is: of these commands, where standard error is a terminal, and the
-/// stream that they read or write isn't.
+/// Whether progress is shown: for these commands, if standard error is a terminal and the stream that they
+/// read or write isn't.
 fn is_watched(rt: &HostRuntime, words: &[&str], commands: &[&str], stream: Stream) -> bool {
     let Some(word) = words.get(0).copied() else {
         return false;
@@ -182,13 +196,13 @@ fn asks_for_help(words: &[&str]) -> bool {
     words.len() == 1 && (words[0] == "-h" || words[0] == "help")
 }
 
-/// Puts the page of `--help` on standard error.
-fn put_page(rt: &HostRuntime) {
+/// Writes the page of `--help` to standard error.
+fn write_page(rt: &HostRuntime) {
     let _ = eprint!(rt; "{HELP}");
 }
 
-/// The words of a command line that couldn't be read: where one isn't text there are none, and so no
-/// command. Else there is no memory for them.
+/// The words of a command line that couldn't be read: none, and so no command, if one isn't text.
+/// Otherwise there was no memory for them.
 fn unread(alloc: Global, error: &io::Error) -> Result<Vec<String>, AllocError>
     ensures no_text { error_kind error.now ≡ ErrorKind.InvalidData → IsOk result }
     ensures none { IfOk result (λ words. words.items ≡ []) }

@@ -3,7 +3,7 @@ use crate::shown::Shown;
 use disk_file::{Cause, NoRoom};
 use std::fmt::{self, Display, Formatter};
 
-/// What failed, a file or a stream, and why.
+/// What failed, a file or a stream, and why it failed.
 #[derive(Clone, Copy)]
 pub struct Failed<'a>(pub &'a str, pub Option<Cause>);
 
@@ -34,24 +34,24 @@ impl Display for Text {
     }
 }
 
-/// What is said of a cause of which the system has no error, or nothing.
+/// The text of a cause for which the system has no error, or nothing.
 fn text_of(cause: Cause) -> &'static str {
     match cause {
-        Cause::NoName => "it is empty",
-        Cause::LongName => "it has more than 4095 bytes",
+        Cause::NoName => "the name is empty",
+        Cause::LongName => "the name has more than 4095 bytes",
         Cause::Folder => "it is a folder",
         Cause::Special => "it is a device, a pipe or a socket",
         Cause::InUse => "it is in use by another process",
-        Cause::OwnStream => "it is what this program's standard streams read or write",
-        Cause::Ended => "it ended before it was read whole",
-        Cause::NoneTaken => "it takes no more bytes",
-        Cause::Lost => "a sync failed before, and bytes may be lost",
-        Cause::Gone => "its name leads to it no more",
+        Cause::OwnStream => "it is also a standard stream of this command",
+        Cause::Ended => "it ended before all of it was read",
+        Cause::NoneTaken => "it accepts no more bytes",
+        Cause::Lost => "an earlier sync failed, so data may be lost",
+        Cause::Gone => "its name no longer leads to it",
         Cause::System(_) | Cause::NoRoom(_) | Cause::NoFolder(_) => "",
     }
 }
 
-/// That there was too little room for a change.
+/// A change for which there was too little room.
 #[derive(Clone, Copy)]
 struct Little(NoRoom);
 
@@ -60,11 +60,8 @@ impl Display for Little {
         let error = self.0.error;
         let asked = self.0.asked;
         match self.0.had {
-            None => write!(f, "{error}; it was to have {asked} bytes"),
-            Some(had) => write!(
-                f,
-                "{error}; it was to have {asked} bytes, and came to {had}"
-            ),
+            None => write!(f, "{error}; it needs {asked} bytes"),
+            Some(had) => write!(f, "{error}; it needs {asked} bytes, and reached {had}"),
         }
     }
 }

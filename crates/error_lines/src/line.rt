@@ -3,7 +3,7 @@ use crate::shown::Shown;
 use crate::unread::Begins;
 use std::fmt::{self, Display, Formatter};
 
-/// Texts that stand one behind another; of those that aren't needed each is empty.
+/// Texts that are shown one after another; those that aren't needed are empty.
 pub type Texts<'a> = [&'a str; 5];
 
 /// One text.
@@ -11,13 +11,13 @@ pub fn one<'a>(text: &'a str) -> Texts<'a> {
     [text, "", "", "", ""]
 }
 
-/// A text, and what stands in front of it and behind it.
+/// A text, and what comes before and after it.
 pub fn three<'a>(front: &'a str, text: &'a str, behind: &'a str) -> Texts<'a> {
     [front, text, behind, "", ""]
 }
 
-/// What is to blame, a file, a stream or the words; what is said of it; and the first bytes of a line of the
-/// input, where these are shown behind it.
+/// What failed, a file, a stream or the words; the text; and the first bytes of a line of the input, if
+/// these are shown after it.
 #[derive(Clone, Copy)]
 pub struct Line<'a> {
     pub what: &'a str,
@@ -34,7 +34,7 @@ impl Display for Line<'_> {
     }
 }
 
-/// Texts one behind another, each quoted where it would break the line.
+/// Texts one after another, each quoted if it would break the line.
 #[derive(Clone, Copy)]
 struct Said<'a>(Texts<'a>);
 

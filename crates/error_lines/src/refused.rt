@@ -1,4 +1,4 @@
-//! Why a file is no store, in words.
+//! Why a file is not a store, in words.
 use crate::line::{Texts, one, three};
 use crate::texts::text_of;
 
@@ -6,25 +6,28 @@ use crate::texts::text_of;
 const WHOLE: &[(&str, &str)] = &[
     (
         "slot 1",
-        "not-a-store: it is too short; a format of it was stopped, or it was cut",
+        "not-a-store: it is too short: a format was interrupted, or it was truncated",
     ),
     (
         "slot 2",
-        "not-a-store: a format of it was stopped near its end",
+        "not-a-store: a format was interrupted near its end",
     ),
     (
         "slot 3",
-        "damaged: neither of its two tables is marked as whole",
+        "damaged: neither of its two tables is marked as valid",
     ),
-    ("slot 4", "damaged: both of its tables have the same number"),
+    (
+        "slot 4",
+        "damaged: both of its tables have the same sequence",
+    ),
     (
         "codec 1 at 0",
-        "not-a-store: it is not a costore store, or a format of it was stopped at its begin",
+        "not-a-store: it is not a costore store, or a format was interrupted at its start",
     ),
 ];
 
-/// Why a file is no store, by what the fault line says of it behind `fault store `. It begins with
-/// `not-a-store` where no store was ever here, or its `format` was stopped, and else with `damaged`.
+/// Why a file is not a store, by the words of the fault line after `fault store `. It begins with
+/// `not-a-store` if it never was one or its `format` was interrupted, and otherwise with `damaged`.
 pub fn refused<'a>(fault: &'a str) -> Texts<'a> {
     match text_of(WHOLE, fault) {
         Some(text) => one(text),
@@ -36,11 +39,13 @@ pub fn refused<'a>(fault: &'a str) -> Texts<'a> {
 fn damaged<'a>(fault: &'a str) -> Texts<'a> {
     if let Some((rule, place)) = parted(fault, "rule ") {
         let kind = text_of(PLACES, rule).unwrap_or(PLACE);
-        let said = text_of(RULES, rule).unwrap_or(": it has another number in this version");
+        let said = text_of(RULES, rule).unwrap_or(": this version has no such rule");
         return ["damaged: rule ", rule, kind, place, said];
     }
     if let Some((number, place)) = parted(fault, "codec ") {
-        let said = text_of(FAULTS, number).unwrap_or(" have what this version doesn't read");
+        let said = text_of(FAULTS, number).unwrap_or(
+            " hold something that this version doesn't read",
+        );
         return three("damaged: the bytes at position ", place, said);
     }
     one("damaged: it is no store")
@@ -57,31 +62,28 @@ fn parted<'a>(fault: &'a str, front: &str) -> Option<(&'a str, &'a str)> {
 /// What a rule of the table says, by its number.
 const RULES: &[(&str, &str)] = &[
     ("1", ": an object has at most 67108864 bytes"),
-    ("2", ": an object without bytes stands at place 0"),
-    ("3", ": nothing ends behind the end of the file"),
+    ("2", ": an empty object is at place 0"),
+    ("3", ": nothing ends after the end of the file"),
     ("4", ": boundary, wall and slack fit the kind of the table"),
     (
         "5",
-        ": no class from the boundary on has a segment, and none takes of a smaller one's buffer",
+        ": no class from the boundary on has a segment, and none uses the buffer of a smaller class",
     ),
-    ("6", ": no more is taken of a buffer than it has"),
+    ("6", ": no more of a buffer is used than it has"),
     (
         "7",
-        ": each object lies in the segment of its class, or in the taken front of a buffer",
+        ": each object is in the segment of its class, or in the used part of a buffer",
     ),
     ("8", ": no object shares a byte with an earlier one"),
-    ("9", ": what a segment has too much is paid for by buffers"),
+    ("9", ": what a segment has in excess is paid for by buffers"),
     (
         "10",
-        ": a class takes of a buffer only where those before it are full",
+        ": a class uses a buffer only where those before it are full",
     ),
-    (
-        "11",
-        ": there is room to end the flush that was interrupted",
-    ),
+    ("11", ": there is room to finish the interrupted flush"),
     (
         "12",
-        ": the objects stand so that the flush that was interrupted can be ended",
+        ": the objects are where the interrupted flush can be finished",
     ),
 ];
 
@@ -107,17 +109,17 @@ const PLACE: &str = " of docs/FORMAT.md is broken at place ";
 
 /// What is wrong in bytes, by its number.
 const FAULTS: &[(&str, &str)] = &[
-    ("1", " have no mark of a store"),
+    ("1", " are not the mark of a store"),
+    ("2", " hold a K or a NAMES that is out of range"),
+    ("3", " hold another version of the format"),
+    ("4", " hold a table that is neither settled nor moving"),
+    ("5", " are not zero, as they must be"),
     (
-        "2",
-        " have a K or a number of names that is out of its range",
+        "6",
+        " hold a count of more records than the file has room for",
     ),
-    ("3", " have another version of the format"),
-    ("4", " have a table that is neither settled nor moving"),
-    ("5", " have something where zeros have to be"),
-    ("6", " have more records than the file has room for"),
-    ("7", " have a name that is none"),
-    ("8", " have a name that isn't greater than the one before"),
-    ("9", " have a checkpoint's number that is too large"),
-    ("10", " have a number that is out of its range"),
+    ("7", " hold an invalid name"),
+    ("8", " hold a name that isn't greater than the one before"),
+    ("9", " hold a sequence that is too large"),
+    ("10", " hold a number that is out of range"),
 ];

@@ -16,8 +16,8 @@ impl Display for Shown<'_> {
     }
 }
 
-/// Bytes of a line as they stand within quotes: printable ASCII as it is, but that a quote and a backslash
-/// have a backslash before them, and each other byte as a backslash, `x` and its two digits of base 16.
+/// Bytes of a line as they are shown within quotes: printable ASCII as it is, except that a quote and a
+/// backslash have a backslash before them; each other byte as a backslash, `x` and two hexadecimal digits.
 #[derive(Clone, Copy)]
 pub struct Quoted<'a>(pub &'a [u8]);
 

@@ -1,22 +1,23 @@
-//! What is said of a call by its status and command, and by the number that its fault line tells.
-/// What is said at a status before and behind the number. Where nothing is behind it, the number isn't said.
+//! The text for a call, by its status, its command and the number on its fault line.
+
+/// The text at a status, before and after the number. If nothing comes after it, the number is left out.
 pub struct Row {
     status: u8,
-    /// The command, or nothing where it may be any.
+    /// The command, or nothing for any.
     command: &'static str,
-    /// The number, or nothing where it may be any.
+    /// The number, or nothing for any.
     number: &'static str,
     pub front: &'static str,
     pub behind: &'static str,
 }
 
-/// The first row that a call fits is said of it.
+/// The first row that fits a call is its text.
 const ROWS: &[Row] = &[
     Row {
         status: 2,
         command: "load",
         number: "0",
-        front: "request: its first line is none of a dump",
+        front: "request: its first line is not that of a dump",
         behind: "",
     },
     Row {
@@ -24,14 +25,14 @@ const ROWS: &[Row] = &[
         command: "load",
         number: "",
         front: "request: object ",
-        behind: " is none that may follow in the dump, or the input ends before its end or goes on",
+        behind: " cannot follow in the dump, or the input ends too early or too late",
     },
     Row {
         status: 2,
         command: "batch",
         number: "",
         front: "request: request ",
-        behind: " is no put or del of a name above the one before, \
+        behind: " is not a put or del of a name after the one before, \
             or the input ends within it or is too long",
     },
     Row {
@@ -39,22 +40,22 @@ const ROWS: &[Row] = &[
         command: "desk",
         number: "",
         front: "request: event ",
-        behind: " is none, or the input ends within it",
+        behind: " is not an event, or the input ends within it",
     },
     Row {
         status: 5,
         command: "load",
         number: "64",
         front: "taken: it has ",
-        behind: " bytes, and a dump is loaded into an empty file alone; \
-            a format that was stopped leaves as many: it may be removed",
+        behind: " bytes, and a dump is loaded only into an empty file; \
+            an interrupted format leaves as many: it can be removed",
     },
     Row {
         status: 5,
         command: "load",
         number: "",
         front: "taken: it has ",
-        behind: " bytes, and a dump is loaded into an empty file alone",
+        behind: " bytes, and a dump is loaded only into an empty file",
     },
     Row {
         status: 5,
@@ -62,7 +63,7 @@ const ROWS: &[Row] = &[
         number: "64",
         front: "taken: it has ",
         behind: " bytes, and only an empty file is formatted; \
-            a format that was stopped leaves as many: it may be removed",
+            an interrupted format leaves as many: it can be removed",
     },
     Row {
         status: 5,
@@ -75,28 +76,28 @@ const ROWS: &[Row] = &[
         status: 10,
         command: "",
         number: "",
-        front: "memory: there is too little",
+        front: "memory: out of memory",
         behind: "",
     },
     Row {
         status: 11,
         command: "",
         number: "",
-        front: "budget: a session has answered as many requests as it may",
+        front: "budget: the limit of 4294967296 requests or events is reached",
         behind: "",
     },
     Row {
         status: 13,
         command: "batch",
         number: "",
-        front: "damaged: the bytes of the batch that it keeps don't have the digest that it was put with",
+        front: "damaged: the batch that it keeps doesn't match its digest",
         behind: "",
     },
     Row {
         status: 13,
         command: "",
         number: "",
-        front: "damaged: the bytes of the object don't have the digest that it was put with",
+        front: "damaged: the bytes of the object don't match its digest",
         behind: "",
     },
     Row {
@@ -104,27 +105,27 @@ const ROWS: &[Row] = &[
         command: "load",
         number: "",
         front: "too-many-names: the dump has ",
-        behind: ", and NAMES gives room for fewer",
+        behind: " objects, and NAMES is less",
     },
     Row {
         status: 14,
         command: "",
         number: "",
         front: "too-many-names: it has ",
-        behind: ", and a table whose records have digests has room for fewer",
+        behind: " objects, more than a table with digests has room for",
     },
     Row {
         status: 15,
         command: "",
         number: "",
-        front: "worn: it was saved as often as a file may be",
+        front: "worn: it was saved as often as a file can be",
         behind: "",
     },
     Row {
         status: 16,
         command: "",
         number: "",
-        front: "no-batch: the bytes of its object !batch are no batch",
+        front: "no-batch: its object !batch is not a batch",
         behind: "",
     },
     Row {
@@ -132,7 +133,7 @@ const ROWS: &[Row] = &[
         command: "",
         number: "",
         front: "unfit: request ",
-        behind: " of the batch removes a name that isn't there, or leaves no room",
+        behind: " of the batch removes a name that isn't there, or there is no room for its name",
     },
 ];
 

@@ -1,8 +1,8 @@
-//! What a session did that isn't in its file.
+//! The changes of a session that aren't in its file.
 use crate::shown::Shown;
 use std::fmt::{self, Display, Formatter};
 
-/// Requests that were answered `ok`, and no acknowledged checkpoint holds what they did.
+/// Requests that were answered `ok` and whose changes no acknowledged checkpoint holds.
 #[derive(Clone, Copy)]
 pub struct Unkept<'a> {
     /// The file.
@@ -27,8 +27,8 @@ impl Display for Unkept<'_> {
         };
         let where_now = match (self.may_be_kept, requests) {
             (true, _) => " may not be in the file",
-            (false, 1) => " is not in the file, as no keep followed",
-            (false, _) => " are not in the file, as no keep followed",
+            (false, 1) => " is not in the file, because no keep followed",
+            (false, _) => " are not in the file, because no keep followed",
         };
         write!(f, "{file}: unkept: {requests}{answered}{since}{where_now}")
     }

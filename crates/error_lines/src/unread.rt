@@ -1,12 +1,12 @@
-//! How a line begins that is no request.
+//! The start of a line that is not a request.
 use crate::shown::Quoted;
 use std::fmt::{self, Display, Formatter};
 
 /// How many bytes of a line are shown.
 const SHOWN: usize = 40;
 
-/// How a line begins that is no request, or that of one that isn't whole, if this is said: its first bytes in
-/// quotes. Two dots behind the quotes say that there are more.
+/// The start of a line that is not a request, or of an incomplete one, if it is shown: its first bytes in
+/// quotes. Two dots after the quotes say that there are more.
 #[derive(Clone, Copy)]
 pub struct Begins<'a>(pub Option<&'a [u8]>);
 

@@ -13,7 +13,7 @@ use std::str;
 /// The number of the system's error that nothing has a name.
 const NOTHING_THERE: i32 = 2;
 
-/// What stands in front of the number in the fault line of a status, and what is said where it isn't there.
+/// What comes before the number on the fault line of a status, and what is shown if it isn't there.
 const FAULTS: &[(u8, &str, &str)] = &[
     (2, "fault request ", "?"),
     (4, "fault store ", ""),
@@ -43,7 +43,7 @@ pub struct Why<'a> {
 }
 
 impl<'a> Why<'a> {
-    /// The line where the system has no error of its own to be shown.
+    /// The line for a status with no error of the system to show.
     fn line(&self) -> Line<'a> {
         let number = self.number();
         match self.status {
@@ -64,7 +64,7 @@ impl<'a> Why<'a> {
         }
     }
 
-    /// That a request is none. At another status nothing is known.
+    /// A request that is not valid. At another status nothing is known.
     fn unread(&self, number: &'a str) -> Line<'a> {
         if self.status != 2 {
             return line("io", one("it failed"));
@@ -74,13 +74,13 @@ impl<'a> Why<'a> {
             texts: three(
                 "request: request ",
                 number,
-                " is none, or the input ends within it; ",
+                " is not valid, or the input ends within it; ",
             ),
             begun: Some(self.begun),
         }
     }
 
-    /// The number that the fault line tells, or what it says of a file that is no store.
+    /// The number on the fault line, or what it says of a file that is not a store.
     fn number(&self) -> &'a str {
         for (status, front, unknown) in FAULTS {
             if *status == self.status {
@@ -134,7 +134,7 @@ fn line<'a>(what: &'a str, texts: Texts<'a>) -> Line<'a> {
     }
 }
 
-/// What a row says, with the number where something stands behind it.
+/// The text of a row, with the number if something comes after it.
 fn told<'a>(row: &Row, number: &'a str) -> Texts<'a> {
     let front: &'a str = row.front;
     let behind: &'a str = row.behind;

@@ -93,27 +93,21 @@ fn form_of(command: &str) -> Option<&'static Form> {
     None
 }
 
-/// What is wrong in the words of a command line, and whether each is UTF-8; where one isn't there are none
-/// here.
+/// What is wrong with the words of a command line. If one isn't UTF-8, no words are given here.
 pub fn wrong<'a>(words: &[&'a str], are_text: bool) -> Texts<'a> {
     if !are_text {
-        return one("one isn't UTF-8, as each has to be, a file's name too");
+        return one("every word must be UTF-8, a file's name too");
     }
     let Some(command) = words.get(0) else {
-        return one("there is no command; costore --help tells them");
+        return one("no command is given; see costore --help");
     };
     match form_of(command) {
         Some(form) => ill(form, &words[1..]),
-        None => three(
-            "there is no command ",
-            command,
-            "; costore --help tells them",
-        ),
+        None => three("unknown command ", command, "; see costore --help"),
     }
 }
 
-/// What is wrong in the words of a command, by what they are called: the first that isn't what it may be, or
-/// how many they are.
+/// What is wrong with the words of a command: the first that is out of range, or how many they are.
 fn ill<'a>(form: &Form, words: &[&'a str]) -> Texts<'a> {
     if form.words.len() == words.len() {
         for at in 0..words.len() {
@@ -124,26 +118,22 @@ fn ill<'a>(form: &Form, words: &[&'a str]) -> Texts<'a> {
             }
         }
     }
-    three(
-        "the words of this command are: costore ",
-        form.command,
-        form.text,
-    )
+    three("usage: costore ", form.command, form.text)
 }
 
-/// That a word isn't what one of its name may be.
+/// A word that is out of the range of its name.
 fn out<'a>(name: &'a str, word: &'a str) -> Texts<'a> {
-    let range = text_of(RANGES, name).unwrap_or("any text but the empty one");
+    let range = text_of(RANGES, name).unwrap_or("any non-empty text");
     if word.is_empty() {
-        three(name, " is ", range)
+        three(name, " must be ", range)
     } else {
-        [name, " is ", range, ", and not ", word]
+        [name, " must be ", range, ", not ", word]
     }
 }
 
 /// What a word may be, by what it is called.
 const RANGES: &[(&str, &str)] = &[
-    ("NAME", "1 to 63 bytes of printable ASCII without blanks"),
+    ("NAME", "1 to 63 bytes of printable ASCII without spaces"),
     ("K", "a number from 2 to 64"),
     ("NAMES", "a number from 16 to 65536"),
     ("NUMBER", "a number from 0 to 18446744073709551615"),
@@ -166,7 +156,7 @@ fn may_be(name: &str, word: &str) -> bool {
     }
 }
 
-/// Whether a word is a number of this range, in digits without a sign or a zero in front.
+/// Whether a word is a number of this range, in digits without a sign or a leading zero.
 fn is_number(word: &str, low: u64, high: u64) -> bool {
     let zeros = word.starts_with('0') && word != "0";
     match word.parse::<u64>() {

@@ -136,56 +136,58 @@ const PAGE: &[&str] = &[
     "costore keeps named objects of bytes in one file, within a stated factor of its live bytes.",
     "",
     "commands:",
-    "  costore format FILE K NAMES       makes a store of FILE, which must be new or empty",
-    "  costore get FILE NAME             puts the bytes of the object NAME",
-    "  costore check FILE                puts one line about the store",
-    "  costore map FILE                  puts its segments and objects",
-    "  costore dump FILE                 puts all its objects as one stream",
-    "  costore run FILE                  serves requests from standard input",
-    "  costore work FILE NUMBER COUNT    does COUNT jobs that NUMBER draws, and puts a summary",
-    "  costore upgrade FILE              gives each object a digest, by which damage is found",
-    "  costore load FILE K NAMES         makes a store of FILE of a stream that dump has put",
+    "  costore format FILE K NAMES       makes an empty store; FILE must be new or empty",
+    "  costore get FILE NAME             prints the bytes of one object",
+    "  costore check FILE                checks all rules of the file, and prints one line about it",
+    "  costore map FILE                  prints where each segment and each object is",
+    "  costore dump FILE                 prints all objects as one stream, sorted by name",
+    "  costore run FILE                  serves the requests of standard input",
+    "  costore work FILE NUMBER COUNT    does COUNT jobs that NUMBER draws, and prints a summary",
+    "  costore upgrade FILE              gives each object a digest, so that damage is detected",
+    "  costore load FILE K NAMES         makes a store from the dump on standard input",
     "  costore batch FILE                does the puts and dels of standard input, all or none",
-    "  costore desk FILE                 serves eight sessions by a script of standard input",
+    "  costore desk FILE                 serves eight sessions, by the script on standard input",
     "  costore cached FILE NUMBER COUNT ENTRIES",
-    "                                    does what work does, behind a cache of ENTRIES objects",
-    "  costore --help                    puts this page",
-    "  costore --version                 puts the version",
+    "                                    does the jobs of work, with a cache of ENTRIES objects",
+    "  costore --help                    prints this page",
+    "  costore --version                 prints the version",
     "",
-    "FILE is any text that isn't empty. NAME is 1 to 63 bytes of printable ASCII without blanks.",
-    "K is 2 to 64: a buffer has a k-th of its segment. NAMES is 16 to 65536: how many objects may be live.",
-    "NUMBER is 0 to 18446744073709551615, COUNT is 1 to 1000000, ENTRIES is 1 to 4096. \
-    Numbers have no sign and",
-    "no leading zero.",
+    "FILE is any non-empty text. NAME is 1 to 63 bytes of printable ASCII without spaces. K is 2 to",
+    "64: a segment of n bytes keeps n / K bytes free beside it. NAMES is 16 to 65536: how many objects",
+    "can be live. NUMBER is 0 to 18446744073709551615, COUNT 1 to 1000000, ENTRIES 1 to 4096. Numbers",
+    "have no sign and no leading zero.",
     "",
-    "check puts store K NAMES COUNT BYTES DATA SEQUENCE KIND: \
-    how many objects there are and how many bytes they",
-    "have, how many the file has behind its head, the number of its checkpoint, and still, or moving where a",
-    "rebuild was interrupted. \
-    map puts a line class C CAPACITY BUFFER TAKEN for each segment that has bytes, and",
-    "object NAME PLACE SIZE for each object; before them moving BOUNDARY WALL SLACK for a moving file.",
+    "run reads requests, one a line, and replies to each:",
+    "  put NAME SIZE                     stores an object; SIZE bytes and a newline follow the line",
+    "  del NAME                          removes it",
+    "  get NAME, old NAME                reads it as it is now, or as of the last checkpoint",
+    "  keep, back                        saves a checkpoint, or returns to the last one",
+    "  list, stat                        lists the names with their sizes, or counts names and bytes",
+    "The reply ok kept says that a checkpoint was saved; a crash returns to it. After ok alone a crash",
+    "or the end of the session loses the change, so end a session with keep.",
     "",
-    "work puts, removes and reads objects named o0, o1 and so on, saves, and then puts twelve lines: \
-    requests,",
-    "ok and kept (those done without a checkpoint and with one), read (bytes), refused; \
-    names, bytes and length",
-    "at the end; moved (bytes); and linear, flat and seek, what the bytes moved and those asked for cost. \
-    cached",
-    "puts three lines more: hits, misses and drops, how many reads the cache served and how many it didn't.",
+    "check prints store K NAMES COUNT BYTES DATA SEQUENCE KIND: how many objects there are, how many",
+    "bytes they have, how many bytes the file has after its head, the number of its checkpoint, and",
+    "still, or moving if a flush was interrupted. A flush moves objects to keep the file small. map",
+    "prints class C CAPACITY BUFFER TAKEN for each segment in use, and object NAME PLACE SIZE for each",
+    "object; for a moving file, moving BOUNDARY WALL SLACK comes first.",
     "",
-    "desk reads events: say S, with a request on the lines behind it, \
-    which waits behind those of its session;",
-    "serve S, which serves the first that waits; \
-    and step, which makes one move of a flush that is in hand. S is 0",
-    "to 7. It puts queued S or full S; to S and the reply, begun S, wait S or empty S; and moved or idle.",
+    "work puts, removes and reads objects named o0, o1 and so on, saves a checkpoint, and prints twelve",
+    "lines: requests, ok and kept (done without a checkpoint, and with one), read (bytes), refused;",
+    "names, bytes and length at the end; moved (bytes); and linear, flat and seek: what the bytes moved",
+    "and those asked for cost. cached prints three more: hits, misses and drops of its cache.",
     "",
-    "status: 0 done, 1 faulty words, 2 a faulty request, 3 no such file, 4 no store, 5 the file isn't empty,",
-    "6 no such object, 7 the disk failed, 8 the input failed, 9 the output failed, 10 out of memory,",
-    "11 too many requests, 13 the object was damaged, 14 too many names, 15 the file has saved too often,",
-    "16 what the file keeps as a batch is none, 17 the batch doesn't fit the file.",
-    "At each status but 0 and 9 one line that begins with fault is put last, \
-    but where there is no memory for",
-    "the words.",
+    "desk reads events: say S, with a request on the lines after it, which waits after those of its",
+    "session; serve S, which serves the first that waits; and step, which makes one move of the flush",
+    "in hand. S is 0 to 7. It prints queued S or full S; to S and the reply, begun S, wait S or",
+    "empty S; and moved or idle.",
+    "",
+    "status: 0 done, 1 faulty words, 2 a faulty request, 3 no such file, 4 not a store, 5 the file is",
+    "not empty, 6 no such object, 7 the disk failed, 8 the input failed, 9 the output failed, 10 out of",
+    "memory, 11 too many requests, 13 the object is damaged, 14 too many names, 15 the file was saved",
+    "too often, 16 the file keeps a batch that is not valid, 17 the batch does not fit the file.",
+    "At each status but 0 and 9 the last line of output begins with fault, unless there was no memory",
+    "for the command line. At each status but 0 and 6 a line on standard error says why.",
     "",
     "examples: costore format blocks 9 1024",
     "          printf 'put a 5\\nhello\\nkeep\\n' | costore run blocks",
@@ -198,7 +200,7 @@ const PAGE: &[&str] = &[
     "          costore work blocks 1 1000",
 ];
 
-/// The page as the program puts it.
+/// The page as the program prints it.
 fn page(rt: &impl Abort, alloc: Global) -> Vec<u8> {
     let mut page = Vec::new(alloc);
     for line in PAGE {
@@ -209,7 +211,7 @@ fn page(rt: &impl Abort, alloc: Global) -> Vec<u8> {
 }
 
 #[test]
-fn puts_the_whole_page(rt: HostRuntime) {
+fn prints_the_whole_page(rt: HostRuntime) {
     let page = page(&rt, rt.alloc());
     let ran = got(&rt, run(rt.alloc(), &["--help"], &[]));
     try_outcome(&rt, ran.outcome, ended(0), &"page");
