@@ -1,5 +1,5 @@
-"""A plain program of what a desk is, from its definition, the language of requests and the rules of charges, without the program.
-The script that tries `desk` on real files uses it."""
+"""What a desk does, as a plain program: from its definition, the language of requests and the rules of charges, without the
+built program. check/desks, which checks `desk` on real files, uses it."""
 
 CLASSES = 27
 SIZE_MAX = 1 << 26

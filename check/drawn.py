@@ -1,5 +1,5 @@
 """The words that a number draws (PCG XSH RR 64/32, stream 1), as crates/hostile_inputs draws them. The scripts that predict
-what drawn tries print use it."""
+the output for drawn inputs use it."""
 
 M64 = (1 << 64) - 1
 MULTIPLIER = 6364136223846793005

@@ -1,15 +1,21 @@
-// Draws what a crash may leave of a file at each moment of a recorded run, and opens each by the definition of the
-// format (docs/FORMAT.md), without the program.
+// Draws crash images of a file at each moment of a recorded run, and opens each by the definition of the format
+// (docs/FORMAT.md), without the program. A crash image is what a crash could leave of the file.
 //
 //   crash_images RECORD IMAGES SEED FOLDER SAMPLES
 //
-// RECORD has the file as it was synced at first (B LENGTH BYTES), each changing call in its order (W PLACE LENGTH BYTES
-// a write, L LENGTH a change of length, S a sync), and M A B: from here on an image may open to the map with the hash A
-// or to that with the hash B. Numbers are 8 bytes, the least first. At each moment so many images are drawn: a position
-// that was written or lay outside the file since the last sync may have any byte, and the length is one of those since;
-// the call under way counts as made. Every SAMPLES-th image is written to FOLDER under its number and the hash of its
-// map, so that the program itself can be asked. The last line is `images N moments N first N second N`; an image that
-// opens to neither map ends it with status 1 and is left in FOLDER as `wrong`.
+// RECORD has, with numbers of 8 bytes, the least significant byte first:
+//
+//   B LENGTH BYTES         the file as it was synced at first
+//   W PLACE LENGTH BYTES   a write
+//   L LENGTH               a change of length
+//   S                      a sync
+//   M A B                  from here on an image may open to the map with the hash A or to the one with the hash B
+//
+// The calls are in their order. At each moment IMAGES images are drawn. A position that was written since the last sync,
+// or was outside the file at some time since, can have any byte. The length is one of those since that sync. The call that
+// is under way counts as made. Every SAMPLES-th image is written to FOLDER, and its name is its number and the hash of its
+// map, so that the program itself can be run on it. The last line is `images N moments N first N second N`. If an image
+// opens to neither map, the status is 1, and the image is left in FOLDER as `wrong`.
 #include <stdint.h>
 #include <stdio.h>
 #include <stdlib.h>
@@ -55,14 +61,14 @@ static int any(const byte *from, const byte *to) {
 
 struct table { int moving, count; u64 boundary, wall, slack, caps[COLUMNS], used[COLUMNS][COLUMNS]; struct span at[MOST_OBJECTS]; };
 
-// Where the segments of the classes below begin.
+// Where the segment of a class begins.
 static u64 begins(const struct table *t, u64 k, int c) {
     u64 place = 0;
     for (int i = 0; i < c; i++) place += t->caps[i] + t->caps[i] / k;
     return place;
 }
 
-// The buffer in whose taken front an object stands, its payload segment as -1, or -2 where it stands in neither.
+// The buffer in whose taken prefix an object is, -1 for its payload segment, or -2 if it is in neither.
 static int stands_in(const struct table *t, u64 k, int below, const u64 *taken, struct span at) {
     int c = class_of(at.size);
     u64 begin = begins(t, k, c);
@@ -151,7 +157,7 @@ static int breaks_flush(const struct table *t, u64 k) {
     return 0;
 }
 
-// Reads a slot into a table, and the hash of its map: 0, or why it isn't one.
+// Reads a slot into a table, and computes the hash of its map: returns 0, or why it isn't a table.
 static const char *read_slot(const byte *file, u64 length, u64 head, u64 k, u64 names, const byte *slot, u64 *hash) {
     static struct table t;
     u64 record = slot[0] == 1 ? 80 : 112, count = number(slot + 16), taken[COLUMNS] = {0};
@@ -182,7 +188,7 @@ static const char *read_slot(const byte *file, u64 length, u64 head, u64 k, u64 
     return t.moving && breaks_flush(&t, k) ? "flush" : 0;
 }
 
-// Opens a file, to the hash of its map: 0, or why it isn't one.
+// Opens a file, and computes the hash of its map: returns 0, or why it isn't a store.
 static const char *open_file(const byte *file, u64 length, u64 *hash) {
     if (length < 64 || memcmp(file, "COSTORE1", 8)) return "mark";
     u64 k = number(file + 8), names = number(file + 16);
@@ -204,7 +210,7 @@ static const char *open_file(const byte *file, u64 length, u64 *hash) {
 static byte *synced, *image;
 static u64 synced_length, room;
 
-// What became of the bytes of a write: none, all, a front, an end, one other byte, or each sector by itself.
+// What became of the bytes of a write: none, all, a prefix, a suffix, all one other byte, or each 64 bytes by themselves.
 static void smear(const struct call *c) {
     u64 way = draw(7), cut = draw(c->length + 1);
     byte other = (byte[]){0, 0xA5, 0xFF, (byte)draw(256)}[draw(4)];
@@ -220,7 +226,7 @@ static void smear(const struct call *c) {
             if (draw(2)) memcpy(to + at, c->bytes + at, c->length - at < 64 ? c->length - at : 64);
 }
 
-// Draws an image of a moment: of what was synced, and of the calls since, of which the last may be under way.
+// Draws an image of a moment, from what was synced and the calls since, the last of which may be under way.
 static u64 draw_image(struct call *since, int count, u64 most) {
     u64 length = synced_length;
     byte grown = draw(2) ? 0 : (byte)draw(256);

@@ -1,6 +1,7 @@
-/* What the calls of a disk cost in C: writes and reads of 4 KiB and 64 KiB in a row, and writes with a sync each, over
-   a scratch file where it runs, which is removed. It prints for each size the size, the pieces, and the microseconds of
-   each kind, as `bench disk` of crates/bench does (docs/PERFORMANCE.md). The word is the number of pieces.
+/* Measures in C what the calls of a disk cost: sequential writes and reads of 4 KiB and 64 KiB, and writes with a sync
+   each. They go to a scratch file in the current folder, which is removed. For each size it prints the size, the number of
+   pieces, and the microseconds of each kind, as `bench disk` of crates/bench does (docs/PERFORMANCE.md). The argument is
+   the number of pieces.
 
        gcc -O2 -o disk_calls measure/disk_calls.c && ./disk_calls 10000
 */

@@ -1,4 +1,4 @@
-"""Drawn requests of a session, the map that they make, and what a file of the store has. measure/full_size uses it."""
+"""Drawn requests of a session, the objects that they lead to, and the objects of a file. measure/full_size uses it."""
 import functools
 import hashlib
 import os
@@ -10,14 +10,14 @@ BASIS, PRIME, M64 = 14695981039346656037, 1099511628211, (1 << 64) - 1
 
 
 class Map:
-    """The objects of now and those of the last checkpoint."""
+    """The objects that are there now and those of the last checkpoint."""
 
     def __init__(self, objects=()):
         self.now = dict(objects)
         self.kept = dict(self.now)
 
     def after(self, request, reply):
-        """Does what a request did that was replied so."""
+        """Does what a request did that got this reply."""
         word, name, body = request
         if reply not in (b'ok', b'ok kept'):
             return
@@ -32,7 +32,7 @@ class Map:
 
 
 def saved_by(objects, request, room=16):
-    """The objects of the checkpoint that a request may save, of a file with room for so many; none where it saves none."""
+    """The objects of the checkpoint that a request may save in a file with room for so many, or None if it saves none."""
     word, name, _ = request
     if word == 'back' or word == 'del' and name not in objects or word == 'put' and len(objects) >= room and name not in objects:
         return None
@@ -50,7 +50,7 @@ def text(request):
 
 
 def drawn(chance, names, count, most):
-    """Requests that are drawn: of eight five puts, a removal, and else a checkpoint or a way back."""
+    """Drawn requests: of 16, ten are puts, three removals, two checkpoints, and one goes back to the last checkpoint."""
     for _ in range(count):
         name = b'o%d' % chance.randrange(names)
         kind = chance.randrange(16)
@@ -64,13 +64,13 @@ def drawn(chance, names, count, most):
 
 
 def replies(output):
-    """The whole lines that were put, each a reply."""
+    """The whole lines of an output, each a reply."""
     return output[:output.rfind(b'\n') + 1].splitlines()
 
 
 @functools.lru_cache(maxsize=4096)
 def hashed_object(name, body):
-    """The hash of an object, as measure/crash_images.c has it: FNV-1a over its record's name and size, and its bytes."""
+    """The hash of an object, as in measure/crash_images.c: FNV-1a over its record's name and size, and its bytes."""
     value = BASIS
     for byte in bytes([len(name)]) + name.ljust(63, b'\0') + len(body).to_bytes(8, 'little') + body:
         value = (value ^ byte) * PRIME & M64
@@ -78,7 +78,7 @@ def hashed_object(name, body):
 
 
 def hashed(objects):
-    """The hash of a map: the sum of those of its objects."""
+    """The hash of a map: the sum of the hashes of its objects."""
     return sum(hashed_object(name, body) for name, body in objects.items()) & M64
 
 
@@ -98,14 +98,14 @@ def objects_of(program, file):
 
 
 def same(objects):
-    """What tells two maps apart, for a line of the report."""
+    """A short digest that tells maps apart, for messages."""
     return hashlib.sha256(repr(sorted(objects.items())).encode()).hexdigest()[:12]
 
 
 def live(program, file, known, chance, names, most):
-    """One life of a store: a session over requests that are drawn, killed at a moment that is drawn. Answers the map that is
-    found then, whether that of the last checkpoint that was acknowledged or the one that was being saved, and how many
-    requests were answered."""
+    """One life of a store: a session of drawn requests, killed at a drawn moment. Answers the map that is found then, whether
+    it is that of the last acknowledged checkpoint or of the one that was being saved, and how many requests were
+    answered."""
     asks = list(drawn(chance, names, chance.randrange(1, 120), most))
     with open(file + '.in', 'wb') as given:
         given.writelines(text(ask) for ask in asks)
@@ -124,11 +124,11 @@ def live(program, file, known, chance, names, most):
         return found, 'acknowledged', len(answers)
     if len(answers) < len(asks) and found == saved_by(acted.now, asks[len(answers)]):
         return found, 'being saved', len(answers)
-    raise SystemExit(f'full_size: {file}: {same(found)} is neither {same(acted.kept)} nor the one after {len(answers)} replies')
+    raise SystemExit(f'full_size: {file}: {same(found)} is neither {same(acted.kept)} nor saved by the request after {len(answers)} replies')
 
 
 def lives(program, folder, number, count):
-    """So many lives of a store on a real file, each map compared. Answers what was found how often."""
+    """So many lives of a store on a real file, with the map compared after each. Answers how often each outcome was found."""
     chance = random.Random(number)
     divisor = (2, 9, 17, 64)[number % 4]
     file = os.path.join(folder, f'lives{number}')

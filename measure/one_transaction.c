@@ -1,5 +1,5 @@
-/* Puts objects into an empty LMDB by one transaction, with its syncs, and prints the seconds that it takes. The words are
-   the file, how many objects, and how many bytes each has.
+/* Puts objects into an empty LMDB database by one transaction, with its syncs, and prints the seconds that it takes. The
+   arguments are the file, the number of objects, and the bytes of each.
 
        gcc -O2 -o one_transaction measure/one_transaction.c -llmdb && ./one_transaction f 1000 4096
 */

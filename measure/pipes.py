@@ -1,4 +1,4 @@
-"""Commands that are measured with pipes at both ends."""
+"""Runs commands with pipes at both ends, and times them. Scripts of this folder use it."""
 import os
 import subprocess
 import time
@@ -15,7 +15,7 @@ def give(file, parts):
 
 
 def ran(words, output, parts=()):
-    """Runs a command on an input to its end, and answers the seconds."""
+    """Runs a command on an input until it ends, and answers the seconds."""
     began = time.monotonic()
     with subprocess.Popen(words, stdin=subprocess.PIPE, stdout=output) as it:
         give(it.stdin.fileno(), parts)
@@ -26,7 +26,7 @@ def ran(words, output, parts=()):
 
 
 def dropped(words, parts=()):
-    """Runs a command whose output is read and dropped, and answers how many bytes came, and the seconds."""
+    """Runs a command whose output is read and discarded, and answers how many bytes came and the seconds."""
     buffer, count = bytearray(PIECE), 0
     began = time.monotonic()
     with subprocess.Popen(words, stdin=subprocess.PIPE, stdout=subprocess.PIPE) as it:
@@ -41,5 +41,5 @@ def dropped(words, parts=()):
 
 
 def body(size, number):
-    """The bytes of an object: lines of 8 bytes, each another."""
+    """The bytes of an object: lines of 8 bytes, all different."""
     return b''.join(b'%07x\n' % ((number * 1000003 + n) & 0xfffffff) for n in range(size // 8))

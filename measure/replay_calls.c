@@ -1,5 +1,6 @@
-/* Makes the calls on a file that another program made, as strace lists them, and reads its input as that did: each write
-   waits until as many bytes came as were written. The first word names the list, the second the file.
+/* Makes the same calls on a file as another program did, from the list of strace, and reads its input as that program
+   did: before each write it waits until as many bytes have come as will have been written. The first argument is the list,
+   the second the file.
 
        strace -e trace=pwrite64,ftruncate,fsync,fdatasync -o calls PROGRAM load f 9 64 <dump
        gcc -O2 -o replay_calls measure/replay_calls.c && ./replay_calls calls g <dump
@@ -16,7 +17,7 @@ struct call { char kind; long long size, place; };
 static char piece[65536], *spare;
 static long long came, due;
 
-/* Reads until so many bytes came, or no more come. */
+/* Reads until so many bytes have come, or no more come. */
 static void take(long long wanted) {
   while (came < wanted) {
     ssize_t n = read(0, piece, sizeof piece);
@@ -26,7 +27,7 @@ static void take(long long wanted) {
   }
 }
 
-/* A line of strace as a call: what is written and where, or to what length. */
+/* Reads a line of strace as a call: how much is written and where, or to what length the file changes. */
 static int parse(const char *line, struct call *call) {
   const char *end = strrchr(line, ')');
   if (!end) return 0;

@@ -1,6 +1,6 @@
-/* What fsync and fdatasync cost in C, after a write of 4 KiB each: over a file that stays as long as it is, and over one
-   that grows. It prints the microseconds of a call (docs/PERFORMANCE.md). The scratch file stands where it runs, and is
-   removed. The word is the number of calls.
+/* Measures in C what fsync and fdatasync cost, after a write of 4 KiB each, on a file whose length stays the same and on
+   one that grows. It prints the microseconds of a call (docs/PERFORMANCE.md). The scratch file is in the current folder, and
+   is removed. The argument is the number of calls.
 
        gcc -O2 -o sync_calls measure/sync_calls.c && ./sync_calls 100
 */
