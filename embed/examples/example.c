@@ -1,4 +1,4 @@
-/* Makes a store, puts objects, keeps them, and reads them again: example FILE. */
+/* Makes a store, puts objects, keeps one of them, and reads both again: example FILE. */
 #include "costore_file.h"
 
 #include <stdio.h>

@@ -1,5 +1,5 @@
-//! A Rust program that links the library: it makes a store in memory, puts an object and reads it again. What it would
-//! make on its file stands in the log.
+//! A Rust program that links the library: it makes a store in memory, puts an object and reads it again. It has no
+//! file; a program that has one replays the log on it after each call.
 use std::os::raw::c_void;
 
 #[repr(C)]

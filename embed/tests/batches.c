@@ -1,6 +1,6 @@
-/* Applies batches that are killed within a replay, and opens each file again: batches FOLDER RUNS. Once what a stop
-   has left is finished, all objects are of one batch: the last that was acknowledged, or the one that was under way.
-   The file is then dumped and loaded into another one, whose dump is the same. */
+/* Applies batches that are killed within a replay, and opens each file again: batches FOLDER RUNS. Once the batch that
+   an interruption has left is finished, all objects are of one batch: the last that was acknowledged, or the one that
+   was under way. The file is then dumped and loaded into another one, whose dump is the same. */
 #define _GNU_SOURCE
 #include "costore_file.h"
 
@@ -93,7 +93,7 @@ static const char *dumps(costore_file_t *f, const char *path) {
 
 static int pending;
 
-/* One run: a child applies batches, says which it has applied, and is killed. */
+/* One run: a child applies batches, reports each, and is killed. */
 static const char *try(const char *path, const char *loaded, unsigned run) {
     costore_file_t f;
     int ends[2], said, done = -1, status;
@@ -128,7 +128,7 @@ static const char *try(const char *path, const char *loaded, unsigned run) {
     if (costore_size(&f.store, (const uint8_t *)COSTORE_BATCH, 6, &size) == COSTORE_DONE) {
         pending++;
         if (costore_batch(&f.store, text, 0, &number) != COSTORE_PENDING)
-            return "a batch isn't told as pending";
+            return "a batch isn't reported as pending";
     }
     if (costore_file_finish(&f, &number) < COSTORE_DONE)
         return "finish";
@@ -158,7 +158,7 @@ int main(int argc, char **argv) {
             printf("batches: failed: run %d: %s\n", run, wrong);
         }
     }
-    /* Some of a hundred stops leave a batch that is kept. */
+    /* Some of a hundred kills leave a batch that is kept. */
     if (atoi(argv[2]) >= 100 && pending == 0) {
         failed++;
         printf("batches: failed: no batch was left\n");

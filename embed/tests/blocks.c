@@ -1,5 +1,5 @@
-/* Writes blocks through the layer that docs/EMBED.md shows, and reads them again: blocks FILE. check/library makes
-   blocks.h of that page. */
+/* Writes blocks through the layer that docs/EMBED.md shows, and reads them again: blocks FILE. check/library cuts
+   blocks.h out of that page. */
 #include "blocks.h"
 
 #include <string.h>

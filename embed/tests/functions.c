@@ -1,4 +1,4 @@
-/* Calls each function of the library once and more, and compares what it answers: functions FILE. */
+/* Calls each function of the library at least once, and compares its answers: functions FILE. */
 #define _GNU_SOURCE
 #include "costore_file.h"
 
@@ -100,7 +100,7 @@ static void texts(costore_file_t *f) {
     is("file, too long", costore_file(&f->store, length, out, 1), COSTORE_SHORT);
 }
 
-/* An object stands in the file, and in the one on the device, where its position says. */
+/* An object is in the file in memory, and in the one on the device, where its position says. */
 static void position(costore_file_t *f, const char *name, const char *object) {
     uint8_t out[64];
     uint64_t at = 7, size = 7, log = 0, length = 0;
@@ -119,7 +119,7 @@ static void position(costore_file_t *f, const char *name, const char *object) {
     is("nothing is written", at == 7 && size == 7, 1);
 }
 
-/* A change that is done and not kept is no more after a way back. */
+/* A change that isn't kept is gone after a way back. */
 static void back(costore_file_t *f) {
     uint8_t out[64], name[16];
     uint64_t size;
@@ -139,7 +139,7 @@ static void back(costore_file_t *f) {
     is("size, gone", costore_size(&f->store, name, n, &size), COSTORE_MISSING);
 }
 
-/* Batches, and why one isn't done. */
+/* Batches, and the refusals of one. */
 static void batches(costore_file_t *f) {
     uint8_t out[256], room[64];
     uint64_t size = 0, number = 77;
@@ -171,7 +171,7 @@ static void batches(costore_file_t *f) {
     is("keep", costore_file_keep(f), COSTORE_KEPT);
 }
 
-/* A dump, and stores that are made of it or aren't. */
+/* A dump, stores that are loaded from it, and texts that aren't dumps. */
 static void streams(const char *path) {
     costore_file_t f;
     costore bare = {0};
@@ -213,7 +213,7 @@ static void streams(const char *path) {
     costore_free(bare);
 }
 
-/* A log that is too small: nothing is made on the file, the store is broken, and the file opens as it was. */
+/* A log that is too small: nothing is replayed, the store is broken, and the file opens as it was. */
 static void small(const char *path) {
     costore_file_t f;
     uint8_t object[2000] = {0}, out[16];

@@ -1,5 +1,5 @@
-/* Runs drawn sessions that are killed within a replay, and opens each file again: killed FOLDER RUNS. What it then
-   has is the last checkpoint that was acknowledged, or what stood after the request that was under way. */
+/* Runs drawn sessions that are killed within a replay, and opens each file again: killed FOLDER RUNS. It must then have
+   the last checkpoint that was acknowledged, or the state after the request that was under way. */
 #define _GNU_SOURCE
 #include "costore_file.h"
 
@@ -12,7 +12,7 @@
 
 enum { NAMES = 40, MOST = 3000, REQUESTS = 400 };
 
-/* In half of the runs each change is made by steps, in a room and with a log of just what these need. */
+/* In half of the runs each change is made by steps, with just the room and the log that costore_need computes. */
 static uint64_t room, log_room;
 
 static int by_steps(unsigned run) {
@@ -25,7 +25,7 @@ static void measure(unsigned run) {
         log_room = 1 << 22;
 }
 
-/* A map: of each name the size and the seed of its bytes, or -1. */
+/* A map: for each name the size, or -1 if there is no object, and the seed of its bytes. */
 typedef struct map_t {
     int size[NAMES];
     unsigned seed[NAMES];
@@ -45,7 +45,7 @@ static void bytes_of(unsigned seed, int size, uint8_t *out) {
         out[i] = (uint8_t)(drawn(&seed) & 0xff);
 }
 
-/* The request of a number: which name, and the object, or -1 to remove it, or -2 to keep. */
+/* The request of a number: its name, and the size and seed of its object; or -1 to remove it, or -2 to keep. */
 static void request(unsigned run, int number, int *which, int *size, unsigned *seed) {
     unsigned state = run * 7919u + (unsigned)number * 104729u + 1;
     drawn(&state);
@@ -63,7 +63,7 @@ static void tick(void *with) {
         kill(getpid(), SIGKILL);
 }
 
-/* One request, by steps or as one call; the answer is that of its last call. */
+/* Makes one request, by steps or as one call, and answers what its last call answers. */
 static int32_t serve(costore_file_t *f, unsigned run, int number) {
     uint8_t name[64], object[MOST];
     int which, size;
@@ -112,7 +112,7 @@ static int same(costore *store, const map_t *m) {
     return 1;
 }
 
-/* One run: a child serves requests, says which it has served, and is killed. */
+/* One run: a child serves requests, reports each, and is killed. */
 static const char *try(const char *path, unsigned run) {
     costore_file_t f;
     int ends[2];

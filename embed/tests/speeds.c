@@ -1,8 +1,8 @@
 /* Times the same requests to the library, to LMDB and to SQLite: speeds WAY PATH NAMES SIZE PUTS EVERY GETS.
 
-   WAY is library, lmdb or sqlite. PATH is a file that isn't there. PUTS objects of SIZE bytes are put under names that
-   are drawn of NAMES, with a checkpoint, which is a commit that is synced, after every EVERY of them; then GETS objects
-   of drawn names are copied out. Printed are two lines, `put SECONDS` and `get SECONDS`. measure/embed_speeds runs it. */
+   WAY is library, lmdb or sqlite. PATH is a file that isn't there. It puts PUTS objects of SIZE bytes under names drawn
+   from NAMES, with a checkpoint, or a synced commit, after every EVERY of them. Then it copies out GETS objects of
+   drawn names. It prints two lines, `put SECONDS` and `get SECONDS`. measure/embed_speeds runs it. */
 #include "costore_file.h"
 
 #include <stdio.h>
@@ -33,7 +33,7 @@ static double now(void) {
     return (double)t.tv_sec + (double)t.tv_nsec / 1e9;
 }
 
-/* The next name, and how long it is. */
+/* Draws the next name, and answers its length. */
 static size_t draw(void) {
     state ^= state << 13, state ^= state >> 7, state ^= state << 17;
     return (size_t)snprintf(name, sizeof name, "n%d", (int)(state % (uint64_t)names));

@@ -1,5 +1,5 @@
 /* Measures how much of a thread's stack the library and costore_file.c use: stack FILE. The calls of functions.c and
-   drawn changes run in a thread with 128 KiB of stack, filled before, of which is looked what was written. */
+   drawn changes run in a thread with 192 KiB of stack. It is filled before, and afterwards shows what was written. */
 #define main try_functions
 #include "functions.c"
 #undef main
