@@ -1,10 +1,9 @@
--- What feeding and opening do to what a handle holds.
-use Rattle.std.specs.Prelude.{◌≡◌, ◌⊎◌, ◌<◌, ℤ, ℕ, List, ◌++◌, length, pos, Ok}
+-- What opening and closing do to what a handle holds.
+use Rattle.std.specs.Prelude.{◌≡◌, ◌<◌, ℤ, ℕ, length, pos, Ok}
 use Rattle.size_class.specs.declared.TheConstants.{CLASSES}
 use Rattle.disk_image.specs.Disks.{image_state}
 use Rattle.disk_image.specs.Notings.{lent}
-use Rattle.disk_image.specs.declared.log.Log.{Log}
-use Rattle.disk_image.specs.declared.room.Room.{Room}
+use Rattle.disk_image.specs.Rooms.{Filing, Logging}
 use Rattle.slot_codec.specs.Readable.{IsSuperBlock}
 use Rattle.slot_pair.specs.Formats.{block_for}
 use Rattle.reopen.specs.Refusals.{RefusesToOpen}
@@ -15,28 +14,16 @@ use Rattle.image_store.specs.Made.{IsMade, NotMade}
 use Rattle.image_store.specs.Noted.{IsNotedOf}
 use Rattle.store_handle.specs.declared.Stage.{Stage}
 use Rattle.store_handle.specs.declared.Stage.TheVariants as stage
-use Rattle.costore_c.specs.Answers.{bad_number_code, closed_code, not_fed_code, opening_code, short_code}
+use Rattle.costore_c.specs.Answers.{bad_number_code, closed_code, not_fed_code, opening_code}
 
--- bytes were taken in behind those that were fed, or they didn't fit
-abbrev pub IsFed : List ℕ → Room → Stage → ℤ → Type 0
-IsFed bytes old (stage.Fed now log) code =
-    ((code ≡ pos 0) × (now.bytes.items ≡ old.bytes.items ++ bytes)) ⊎ ((code ≡ short_code) × (now ≡ old))
-IsFed bytes old stage.Closed code = ⊥
-IsFed bytes old (stage.Open s) code = ⊥
-
-abbrev pub FeedsFed : List ℕ → Stage → Stage → ℤ → Type 0
-FeedsFed bytes (stage.Fed room log) now code = IsFed bytes room now code
-FeedsFed bytes stage.Closed now code = (now ≡ stage.Closed) × (code ≡ not_fed_code)
-FeedsFed bytes (stage.Open s) now code = (now ≡ stage.Open s) × (code ≡ not_fed_code)
-
--- a store was opened of the file that was fed, as the store opens one that is at rest, and its log has the
--- calls of that; or the handle is closed, and the code says why
-abbrev pub IsOpenOf : Room → Log → Stage → ℤ → Type 0
-IsOpenOf room log (stage.Open s) code = (code ≡ pos 0) × IsOpening CLASSES
-    (image_state (lent room.bytes.items room.most (length log.text.items))) (disk_of s) (Ok s.store)
-    × IsNotedOf room.bytes.items s
+-- a store was opened of the file, as the store opens one that is at rest, and its log has the calls of that;
+-- or the handle is closed, and the code says why
+abbrev pub IsOpenOf : Filing → Logging → Stage → ℤ → Type 0
+IsOpenOf room log (stage.Open s) code = (code ≡ pos 0)
+    × IsOpening CLASSES (image_state (lent room.file room.most log.most)) (disk_of s) (Ok s.store)
+    × IsNotedOf room.file s
 IsOpenOf room log stage.Closed code = (why : OpenFault) × (code ≡ opening_code why)
-    × RefusesToOpen CLASSES room.bytes.items why
+    × RefusesToOpen CLASSES room.file why
 IsOpenOf room log (stage.Fed r l) code = ⊥
 
 abbrev pub OpensFed : Stage → Stage → ℤ → Type 0
@@ -54,8 +41,8 @@ IsMadeOf k names (stage.Fed r l) code = ⊥
 -- so of a file without bytes; any other handle stays
 abbrev pub MakesFed : ℕ → ℕ → Stage → Stage → ℤ → Type 0
 MakesFed k names (stage.Fed room log) now code =
-    (length room.bytes.items ≡ 0 → IsMadeOf k names now code)
-    × (0 < length room.bytes.items → (now ≡ stage.Fed room log) × (code ≡ not_fed_code))
+    (length room.file ≡ 0 → IsMadeOf k names now code)
+    × (0 < length room.file → (now ≡ stage.Fed room log) × (code ≡ not_fed_code))
 MakesFed k names stage.Closed now code = (now ≡ stage.Closed) × (code ≡ not_fed_code)
 MakesFed k names (stage.Open s) now code = (now ≡ stage.Open s) × (code ≡ not_fed_code)
 

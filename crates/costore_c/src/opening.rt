@@ -1,32 +1,41 @@
-//! Handles: making one, feeding it a file, opening and closing its store.
+//! Handles: making one over a file, opening and closing its store.
 ghost use Rattle.std.specs.Prelude.{◌≡◌, ◌⊎◌, pos};
 ghost use Rattle.slot_codec.specs.Readable.{IsSuperBlock};
 ghost use Rattle.slot_pair.specs.Formats.{block_for};
-ghost use Rattle.costore_c.specs.Answers.{no_memory_code};
-ghost use Rattle.costore_c.specs.Openings.{Closes, FeedsFed, Formats, IsOpenOf, MakesFed, OpensFed};
+ghost use Rattle.costore_c.specs.Answers.{bad_number_code, no_memory_code};
+ghost use Rattle.costore_c.specs.Openings.{Closes, Formats, IsOpenOf, MakesFed, OpensFed};
 ghost use Rattle.store_handle.specs.declared.Stage.TheVariants as Stage;
 
-use crate::codes::{BAD_NUMBER, CLOSED, DONE, NO_MEMORY, NOT_FED, SHORT, of_opening};
+use crate::codes::{BAD_NUMBER, CLOSED, DONE, NO_MEMORY, NOT_FED, of_opening};
 use disk_image::{Log, Room};
 use erased::Erased;
 use image_store::ImageStore;
+use lent_region::Region;
 use std::alloc::Global;
 use std::mem;
 use store_handle::{Handle, Held, Stage};
 
-/// Makes a handle with memory for a file of at most `room` bytes and for a log of `log` bytes, and writes its
-/// pointer. The file is empty until it is fed. Where there is no memory it says so, and writes nothing.
+/// Makes a handle over two lent regions, and writes its pointer. One has the file's `length` bytes at its
+/// front, as they are on the device, and as many bytes as the file may come to have; the calls are noted in
+/// the other. Where the file is longer than its region, or there is no memory for the handle, it says so, and
+/// writes nothing.
 #[unsafe(no_mangle)]
-pub extern "C" fn costore_new(alloc: Global, room: u64, log: u64, out: &mut *mut u8) -> i32
-    ensures answers { (result ≡ pos 0) ⊎ (result ≡ no_memory_code) }
-    ensures same { result ≡ no_memory_code → out.new ≡ out.old }
+pub extern "C" fn costore_new(
+    alloc: Global,
+    file: Region,
+    length: u64,
+    log: Region,
+    out: &mut *mut u8,
+) -> i32
+    ensures answers { (result ≡ pos 0) ⊎ (result ≡ no_memory_code) ⊎ (result ≡ bad_number_code) }
+    ensures same { (result ≡ no_memory_code) ⊎ (result ≡ bad_number_code) → out.new ≡ out.old }
 {
-    let Ok(room) = Room::with_room(alloc, room as usize) else {
-        return NO_MEMORY;
-    };
-    let Ok(log) = Log::with_room(alloc, log as usize) else {
-        return NO_MEMORY;
-    };
+    let file = file.leak();
+    let log = Log::of(log.leak());
+    if length > file.len() as u64 {
+        return BAD_NUMBER;
+    }
+    let room = Room::of(file, length as usize);
     let stage = Stage::Fed(room, log);
     match Box::new(alloc, Held { stage }) {
         Ok(held) => {
@@ -37,21 +46,7 @@ pub extern "C" fn costore_new(alloc: Global, room: u64, log: u64, out: &mut *mut
     }
 }
 
-/// Takes in the next bytes of the file, as they are on the device.
-#[unsafe(no_mangle)]
-pub extern "C" fn costore_feed(store: &mut Handle, bytes: &[u8]) -> i32
-    ensures { FeedsFed bytes.now store.old.value.stage store.new.value.stage result }
-{
-    match &mut store.held().stage {
-        Stage::Fed(room, _) => match room.feed(bytes) {
-            Ok(()) => DONE,
-            Err(_) => SHORT,
-        },
-        _ => NOT_FED,
-    }
-}
-
-/// Opens the store in the file that was fed, which is at rest on its device. Where it answers no store the
+/// Opens the store in a file that is at rest on its device. Where it answers no store the
 /// handle is closed.
 #[unsafe(no_mangle)]
 pub extern "C" fn costore_open(alloc: Global, store: &mut Handle) -> i32
@@ -67,9 +62,9 @@ pub extern "C" fn costore_open(alloc: Global, store: &mut Handle) -> i32
     }
 }
 
-/// Opens the store in a file that was fed.
+/// The same of a file and a log.
 fn open_fed(alloc: Global, room: Room, log: Log, stage: &mut Stage) -> i32
-    ensures { IsOpenOf room log stage.new result }
+    ensures { IsOpenOf room.entry log.entry stage.new result }
 {
     match ImageStore::open(alloc, room, log) {
         Ok(open) => {
@@ -102,10 +97,10 @@ pub extern "C" fn costore_format(alloc: Global, store: &mut Handle, k: u64, name
     }
 }
 
-/// Makes a store of a file that was fed, which is to have no bytes.
+/// The same of a file and a log; the file is to have no bytes.
 fn make_fed(alloc: Global, room: Room, log: Log, k: u64, names: u64, stage: &mut Stage) -> i32
     requires ranges { IsSuperBlock (block_for k names) }
-    ensures { MakesFed k names (Stage.Fed room log) stage.new result }
+    ensures { MakesFed k names (Stage.Fed room.entry log.entry) stage.new result }
 {
     if room.end() != 0 {
         *stage = Stage::Fed(room, log);
@@ -123,7 +118,7 @@ fn make_fed(alloc: Global, room: Room, log: Log, k: u64, names: u64, stage: &mut
     }
 }
 
-/// Closes the store, and gives the memory of its file and of its log back.
+/// Closes the store. The memory of its file and of its log is no longer used.
 #[unsafe(no_mangle)]
 pub extern "C" fn costore_close(store: &mut Handle) -> i32
     ensures { Closes store.old.value.stage store.new.value.stage result }

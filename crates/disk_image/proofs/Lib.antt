@@ -1,7 +1,10 @@
 pub mod FrameLaws
+pub mod GapLaws
 pub mod Joined
 pub mod LogLaws
+pub mod RoomLaws
 pub mod Seen
 pub mod SpellingLaws
 pub mod StopLaws
 pub mod WordLaws
+pub mod WriteLaws

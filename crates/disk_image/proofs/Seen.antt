@@ -1,19 +1,18 @@
 -- What contracts see of the fields of a file in memory.
-use Rattle.std.proofs.Common.{List, ℕ, length, take}
+use Rattle.std.proofs.Common.{List, ℕ}
 use Rattle.disk_history.specs.Histories.{History}
 use Rattle.disk_image.specs.Notings.{Noting}
-use Rattle.disk_image.specs.declared.log.Log.{Log}
-use Rattle.disk_image.specs.declared.room.Room.{Room}
+use Rattle.disk_image.specs.Rooms.{Filing, Logging}
 
 -- by the history, that at the start of the log, the room and the log
-abbrev pub seen_of : History → History → Room → Log → Noting
+abbrev pub seen_of : History → History → Filing → Logging → Noting
 seen_of history start room log = record {
   history = history;
   start = start;
-  text = take log.used log.text.items;
+  text = log.text;
   room = room.most;
-  log_room = length log.text.items;
+  log_room = log.most;
 }
 
-abbrev pub file_in : Room → List ℕ
-file_in room = room.bytes.items
+abbrev pub file_in : Filing → List ℕ
+file_in room = room.file

@@ -1,6 +1,8 @@
 pub mod Calls
 pub mod Disks
+pub mod Gaps
 pub mod Notings
+pub mod Rooms
 pub mod Stops
 pub mod Trails
 pub mod Views

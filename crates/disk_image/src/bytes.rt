@@ -1,6 +1,6 @@
 //! What a call does to the bytes of a file, and to those of a log.
-ghost use Rattle.std.specs.Prelude.{◌≡◌, ◌≤◌, ◌+◌, ◌++◌, length, take, vec_capacity};
-ghost use Rattle.byte_ranges.specs.Ranges.{bytes_at, overwritten, resized};
+ghost use Rattle.std.specs.Prelude.{◌≡◌, ◌≤◌, ◌+◌, ◌++◌, length, take};
+ghost use Rattle.byte_ranges.specs.Ranges.{bytes_at, overwritten};
 ghost use Rattle.disk_image.specs.Calls.{entry, entry_head, number};
 
 /// Copies bytes from a position on.
@@ -11,22 +11,12 @@ pub fn get(file: &[u8], at: usize, out: &mut [u8])
     out.copy_from_slice(&file[at..at + out.len()]);
 }
 
-/// Writes bytes at a position of the file.
-pub fn put(file: &mut Vec<u8>, at: usize, bytes: &[u8])
-    requires { at + length bytes.now ≤ length file.old.items }
-    ensures items { file.new.items ≡ overwritten file.old.items at bytes.now }
-    ensures capacity { vec_capacity file.new ≡ vec_capacity file.old }
+/// Writes bytes at a position, and keeps what stands after them.
+pub fn put(file: &mut [u8], at: usize, bytes: &[u8])
+    requires { at + length bytes.now ≤ length file.old }
+    ensures { file.new ≡ overwritten file.old at bytes.now }
 {
     file[at..at + bytes.len()].copy_from_slice(bytes);
-}
-
-/// Cuts the file, or grows it by zeros within its memory.
-pub fn cut_or_grow(file: &mut Vec<u8>, n: usize)
-    requires { n ≤ vec_capacity file.old }
-    ensures items { file.new.items ≡ resized file.old.items n }
-    ensures capacity { vec_capacity file.old ≤ vec_capacity file.new }
-{
-    file.resize(n, 0).unwrap();
 }
 
 /// Writes bytes right after a text. What stands after them isn't kept.

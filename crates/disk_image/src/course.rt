@@ -2,27 +2,40 @@
 ghost use Rattle.std.specs.Prelude.{◌≡◌, ◌≤◌, ◌-◌, ◌^◌};
 ghost use Rattle.disk_history.specs.{Changes.RecordedCall.{Wrote, Sized, Synced}, Histories.{done, fresh, undone}};
 
+use crate::room::Room;
 use crate::trail::Trail;
+use std::marker::Model;
+use std::snapshot::Snapshot;
 
 /// The calls on a file since it was lent, and how many changing ones have ended and have failed.
 #[derive(Drop)]
 pub struct Course {
-    pub trail: Trail,
+    lent: Snapshot<Room>,
+    trail: Trail,
     turns: u64,
     faults: u64,
-    ghost same_turns: { turns ≡ trail.history.turn },
-    ghost same_faults: { faults ≡ trail.history.faults },
+}
+
+impl Model for Course {
+    ghost use Rattle.std.specs.Prelude.{◌≡◌};
+    ghost use Rattle.disk_history.specs.Histories.{History};
+    ghost use Rattle.disk_image.specs.Trails.{history_on};
+
+    ghost Value = { History };
+
+    ghost view = { λ c. history_on c.lent.value.file c.trail.history };
+
+    ghost invariant = { λ c. (c.turns ≡ c.trail.history.turn) × (c.faults ≡ c.trail.history.faults) };
 }
 
 impl Course {
-    /// Before the first call on a file of these bytes, which is at rest.
-    pub fn at_rest(bytes: &[u8]) -> Course
-        ensures { result.trail.history ≡ fresh bytes.now }
+    /// Before the first call on a file, which is at rest.
+    pub fn at_rest(room: &Room) -> Course
+        ensures { result ≡ fresh room.now.file }
     {
-        let mut trail = Trail::new();
-        trail.rest(bytes);
         Course {
-            trail,
+            lent: Snapshot::of(room),
+            trail: Trail::new(),
             turns: 0,
             faults: 0,
         }
@@ -30,15 +43,15 @@ impl Course {
 
     /// How many changing calls have ended.
     pub fn turns(&self) -> u64
-        ensures turns { result ≡ self.now.trail.history.turn }
-        ensures few { self.now.trail.history.turn ≤ 2 ^ 64 - 1 }
+        ensures turns { result ≡ self.now.turn }
+        ensures few { self.now.turn ≤ 2 ^ 64 - 1 }
     {
         self.turns
     }
 
     /// Bytes were written at a position.
     pub fn write(&mut self, at: u64, bytes: &[u8])
-        ensures { self.new.trail.history ≡ done (Wrote at bytes.now) self.old.trail.history }
+        ensures { self.new ≡ done (Wrote at bytes.now) self.old }
     {
         self.trail.write(at, bytes);
         self.turns = self.turns.saturating_add(1);
@@ -46,7 +59,7 @@ impl Course {
 
     /// The length was set.
     pub fn set_len(&mut self, n: u64)
-        ensures { self.new.trail.history ≡ done (Sized n) self.old.trail.history }
+        ensures { self.new ≡ done (Sized n) self.old }
     {
         self.trail.set_len(n);
         self.turns = self.turns.saturating_add(1);
@@ -54,7 +67,7 @@ impl Course {
 
     /// The file was synced.
     pub fn sync(&mut self)
-        ensures { self.new.trail.history ≡ done Synced self.old.trail.history }
+        ensures { self.new ≡ done Synced self.old }
     {
         self.trail.sync();
         self.turns = self.turns.saturating_add(1);
@@ -62,7 +75,8 @@ impl Course {
 
     /// A changing call failed.
     pub fn fail(&mut self)
-        ensures { self.new.trail.history ≡ undone self.old.trail.history }
+        ensures history { self.new ≡ undone self.old }
+        ensures later { self.old.faults ≤ self.new.faults }
     {
         self.trail.fail();
         self.turns = self.turns.saturating_add(1);

@@ -8,54 +8,51 @@ ghost use Rattle.disk_image.specs.{Calls.{entry_head}, Notings.{IsLog, content, 
 use crate::course::Course;
 use crate::log::Log;
 use crate::room::Room;
-use crate::trail::Trail;
 use disk_face::{Disk, DiskFault};
 use std::marker::Model;
 use std::snapshot::Snapshot;
 
-/// A file at the front of a room, and the calls on it, of which those since the log was emptied last stand
-/// in the log.
+/// A file at the front of a room, and the calls on it, of which the log has those since it was emptied last.
 #[derive(Drop)]
 pub struct ImageDisk {
     course: Course,
-    start: Snapshot<Trail>,
+    start: Snapshot<Course>,
     room: Room,
     log: Log,
 }
 
 impl Model for ImageDisk {
-    ghost use Rattle.std.specs.Prelude.{length, take};
     ghost use Rattle.disk_image.specs.Notings.{Noting, IsNoting};
 
     ghost Value = { Noting };
 
     ghost view = { λ d. record {
-      history = d.course.trail.history;
-      start = d.start.value.history;
-      text = take d.log.used d.log.text.items;
+      history = d.course;
+      start = d.start.value;
+      text = d.log.text;
       room = d.room.most;
-      log_room = length d.log.text.items;
+      log_room = d.log.most;
     } };
 
     ghost invariant = { λ d. IsNoting (record {
-      history = d.course.trail.history;
-      start = d.start.value.history;
-      text = take d.log.used d.log.text.items;
+      history = d.course;
+      start = d.start.value;
+      text = d.log.text;
       room = d.room.most;
-      log_room = length d.log.text.items;
-    }) d.room.bytes.items };
+      log_room = d.log.most;
+    }) d.room.file };
 }
 
 impl ImageDisk {
-    /// A file that was fed whole and is at rest on its device; nothing is noted yet.
+    /// A file that is at rest on its device; nothing is noted yet.
     pub fn new(room: Room, log: Log) -> ImageDisk
-        ensures { result ≡ lent room.bytes.items room.most (length log.text.items) }
+        ensures { result ≡ lent room.entry.file room.entry.most log.entry.most }
     {
-        let course = Course::at_rest(room.bytes());
+        let course = Course::at_rest(&room);
         let mut log = log;
         log.clear();
         ImageDisk {
-            start: Snapshot::of(&course.trail),
+            start: Snapshot::of(&course),
             course,
             room,
             log,
@@ -66,7 +63,7 @@ impl ImageDisk {
     pub fn empty_log(&mut self)
         ensures { self.new ≡ emptied self.old }
     {
-        self.start = Snapshot::of(&self.course.trail);
+        self.start = Snapshot::of(&self.course);
         self.log.clear();
     }
 
@@ -75,7 +72,7 @@ impl ImageDisk {
         ensures log { IsLog self.now.start self.now.history self.now.text }
         ensures ended { EndedBy self.now.history.turn self.now.history.calls }
     {
-        let _ = self.log.used();
+        let _ = self.log.text();
     }
 
     /// The number of bytes in the file.
@@ -99,11 +96,11 @@ impl ImageDisk {
         self.room.most()
     }
 
-    /// The bytes of the file.
-    pub fn bytes(&self) -> &[u8]
-        ensures { result.now ≡ content self.now }
+    /// The file.
+    pub fn room(&self) -> &Room
+        ensures { result.now.file ≡ content self.now }
     {
-        self.room.bytes()
+        &self.room
     }
 }
 

@@ -5,6 +5,8 @@
 mod bytes;
 mod course;
 mod disk;
+mod gap;
+mod gaps;
 pub mod laws;
 mod log;
 mod room;
@@ -13,5 +15,5 @@ mod view;
 
 pub use disk::ImageDisk;
 pub use log::Log;
-pub use room::{Room, TooLong};
+pub use room::Room;
 pub use view::FileView;

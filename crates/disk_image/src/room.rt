@@ -1,93 +1,126 @@
-//! A file in memory.
-ghost use Rattle.std.specs.Prelude.{◌≡◌, ◌≤◌, ◌<◌, ◌+◌, ◌++◌, ◌↔◌, [], length, vec_capacity, IfOk, IsErr, OnOk, OnErr};
+//! A file in memory that was lent.
+ghost use Rattle.std.specs.Prelude.{◌≡◌, ◌≤◌, ◌+◌, length, take};
 ghost use Rattle.byte_ranges.specs.Ranges.{bytes_at, overwritten, resized};
 
-use crate::bytes::{cut_or_grow, get, put};
-use std::alloc::{AllocError, Global};
+use crate::bytes::{get, put};
+use crate::gap::Gap;
+use crate::gaps::{blank, extend, part};
+use std::marker::Model;
 
-/// The bytes of a file, and how many there may be. Their memory was taken when it was made.
+/// The bytes of a file at the front of lent memory, which has as many as the file may have. Within two gaps
+/// the file reads as zeros, and the memory may have any bytes: so the file grows without a write. Two are
+/// enough for a flush, which grows the file once, and then writes upward and downward from one place there.
 #[derive(Drop)]
 pub struct Room {
-    bytes: Vec<u8>,
-    most: usize,
-    ghost fits: { most ≤ vec_capacity bytes },
-    ghost inside: { length bytes.items ≤ most },
+    bytes: &'static mut [u8],
+    end: usize,
+    lower: Gap,
+    upper: Gap,
 }
 
-/// Bytes that don't fit in a room.
-#[derive(Clone, Copy, Debug, PartialEq, Eq)]
-pub struct TooLong;
+impl Model for Room {
+    ghost use Rattle.std.specs.Prelude.{length, take};
+    ghost use Rattle.disk_image.specs.{Gaps.{HasGaps, seen}, Rooms.{Filing}};
+
+    ghost Value = { Filing };
+
+    ghost view = { λ r. record {
+      file = seen r.lower r.upper (take r.end r.bytes.now);
+      most = length r.bytes.now;
+    } };
+
+    ghost invariant = { λ r. HasGaps r.lower r.upper r.end r.bytes.now };
+}
 
 impl Room {
-    /// An empty file, which may have so many bytes.
-    pub fn with_room(alloc: Global, most: usize) -> Result<Room, AllocError>
-        ensures bytes { IfOk result (λ room. room.bytes.items ≡ []) }
-        ensures most { IfOk result (λ room. room.most ≡ most) }
+    /// The file of so many bytes at the front of lent memory.
+    pub fn of(bytes: &'static mut [u8], end: usize) -> Room
+        requires fits { end ≤ length bytes.now }
+        ensures file { result.file ≡ take end bytes.entry.now }
+        ensures most { result.most ≡ length bytes.entry.now }
     {
-        let bytes = Vec::with_capacity(alloc, most)?;
-        Ok(Room { bytes, most })
-    }
-
-    /// Takes in the next bytes of the file as it is on its device.
-    pub fn feed(&mut self, bytes: &[u8]) -> Result<(), TooLong>
-        ensures fails { IsErr result ↔ (self.old.most < length self.old.bytes.items + length bytes.now) }
-        ensures fed { OnOk result (self.new.bytes.items ≡ self.old.bytes.items ++ bytes.now) }
-        ensures same { OnErr result (self.new ≡ self.old) }
-        ensures most { self.new.most ≡ self.old.most }
-    {
-        let at = self.bytes.len();
-        if bytes.len() > self.most - at {
-            return Err(TooLong);
+        let none = Gap { from: 0, to: 0 };
+        Room {
+            bytes,
+            end,
+            lower: none,
+            upper: none,
         }
-        self.bytes.resize(at + bytes.len(), 0).unwrap();
-        self.bytes[at..].copy_from_slice(bytes);
-        Ok(())
     }
 
     /// How many bytes the file has.
     pub fn end(&self) -> usize
-        ensures { result ≡ length self.now.bytes.items }
+        ensures { result ≡ length self.now.file }
     {
-        self.bytes.len()
+        self.end
     }
 
     /// How many bytes it may have.
     pub fn most(&self) -> usize
         ensures { result ≡ self.now.most }
     {
-        self.most
-    }
-
-    /// Its bytes.
-    pub fn bytes(&self) -> &[u8]
-        ensures { result.now ≡ self.now.bytes.items }
-    {
-        &self.bytes
+        self.bytes.len()
     }
 
     /// Copies bytes of the file from a position on.
     pub fn get(&self, at: usize, out: &mut [u8])
-        requires { at + length out.old ≤ length self.now.bytes.items }
-        ensures { out.new ≡ bytes_at self.now.bytes.items at (length out.old) }
+        requires { at + length out.old ≤ length self.now.file }
+        ensures { out.new ≡ bytes_at self.now.file at (length out.old) }
     {
-        get(&self.bytes, at, out);
+        get(&self.bytes[..self.end], at, out);
+        blank(out, at, self.lower);
+        blank(out, at, self.upper);
     }
 
     /// Writes bytes at a position of the file.
     pub fn put(&mut self, at: usize, bytes: &[u8])
-        requires { at + length bytes.now ≤ length self.old.bytes.items }
-        ensures file { self.new.bytes.items ≡ overwritten self.old.bytes.items at bytes.now }
+        requires { at + length bytes.now ≤ length self.old.file }
+        ensures file { self.new.file ≡ overwritten self.old.file at bytes.now }
         ensures most { self.new.most ≡ self.old.most }
     {
-        put(&mut self.bytes, at, bytes);
+        let file = &mut self.bytes[..self.end];
+        let after = at + bytes.len();
+        let (lower, upper) = part(file, self.lower, self.upper, at, after);
+        put(file, at, bytes);
+        self.lower = lower;
+        self.upper = upper;
     }
 
     /// Cuts the file, or grows it by zeros.
     pub fn resize(&mut self, n: usize)
         requires { n ≤ self.old.most }
-        ensures file { self.new.bytes.items ≡ resized self.old.bytes.items n }
+        ensures file { self.new.file ≡ resized self.old.file n }
         ensures most { self.new.most ≡ self.old.most }
     {
-        cut_or_grow(&mut self.bytes, n);
+        if n <= self.end {
+            self.cut(n);
+        } else {
+            self.grow(n);
+        }
+    }
+
+    /// Cuts the file.
+    fn cut(&mut self, n: usize)
+        requires { n ≤ length self.old.file }
+        ensures file { self.new.file ≡ resized self.old.file n }
+        ensures most { self.new.most ≡ self.old.most }
+    {
+        self.lower = self.lower.before(n);
+        self.upper = self.upper.before(n);
+        self.end = n;
+    }
+
+    /// Grows the file. What is new is a gap.
+    fn grow(&mut self, n: usize)
+        requires longer { length self.old.file ≤ n }
+        requires fits { n ≤ self.old.most }
+        ensures file { self.new.file ≡ resized self.old.file n }
+        ensures most { self.new.most ≡ self.old.most }
+    {
+        let file = &mut self.bytes[..n];
+        let (lower, upper) = extend(file, self.end, self.lower, self.upper);
+        self.lower = lower;
+        self.upper = upper;
+        self.end = n;
     }
 }

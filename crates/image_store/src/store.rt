@@ -1,5 +1,6 @@
 //! A store and its file.
-ghost use Rattle.std.specs.Prelude.{◌≡◌, ◌↔◌, [], length, IfErr, IfOk, IsSome, IsTrue, Ok};
+ghost use Rattle.std.specs.Prelude.{◌≡◌, ◌↔◌, ◌≤◌, ◌+◌, [], length, IfErr, IfOk, IsSome, IsTrue, Ok};
+ghost use Rattle.byte_ranges.specs.Ranges.{bytes_at};
 ghost use Rattle.size_class.specs.declared.TheConstants.{CLASSES};
 ghost use Rattle.disk_image.specs.{Disks.{image_state}, Notings.{lent}};
 ghost use Rattle.reopen.specs.Refusals.{RefusesToOpen};
@@ -38,14 +39,14 @@ impl Model for ImageStore {
 impl ImageStore {
     ghost use Rattle.image_store.specs.Embedded.{disk_of, file_in};
 
-    /// Opens the store in a file that was fed whole and is at rest on its device. The log has the calls of
+    /// Opens the store in a file that is at rest on its device. The log has the calls of
     /// the opening, if it cut the file or went on with a flush.
     pub fn open(alloc: Global, room: Room, log: Log) -> Result<ImageStore, OpenFault>
         ensures opened { IfOk result (λ s. IsOpening CLASSES
-            (image_state (lent room.bytes.items room.most (length log.text.items))) (disk_of s)
+            (image_state (lent room.entry.file room.entry.most log.entry.most)) (disk_of s)
             (Ok s.store)) }
-        ensures refused { IfErr result (RefusesToOpen CLASSES room.bytes.items) }
-        ensures noted { IfOk result (IsNotedOf room.bytes.items) }
+        ensures refused { IfErr result (RefusesToOpen CLASSES room.entry.file) }
+        ensures noted { IfOk result (IsNotedOf room.entry.file) }
     {
         let mut disk = ImageDisk::new(room, log);
         let opened: Result<Store<CLASSES>, OpenFault> = Store::open(alloc, &mut disk);
@@ -67,7 +68,7 @@ impl ImageStore {
         names: u64,
     ) -> Result<ImageStore, OpenFault>
         requires ranges { IsSuperBlock (block_for k names) }
-        requires empty { room.bytes.items ≡ [] }
+        requires empty { room.file ≡ [] }
         ensures made { IfOk result (IsMade k names) }
         ensures refused { IfErr result NotMade }
     {
@@ -104,10 +105,11 @@ impl ImageStore {
         self.disk.text()
     }
 
-    /// The bytes of the file.
-    pub fn bytes(&self) -> &[u8]
-        ensures { result.now ≡ file_in self.now }
+    /// Copies bytes of the file from a position on.
+    pub fn copy(&self, at: usize, out: &mut [u8])
+        requires { at + length out.old ≤ length (file_in self.now) }
+        ensures { out.new ≡ bytes_at (file_in self.now) at (length out.old) }
     {
-        self.disk.bytes()
+        self.disk.room().get(at, out);
     }
 }

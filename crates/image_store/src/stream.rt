@@ -53,7 +53,7 @@ impl ImageStore {
         if self.store.is_broken() {
             return Err(DumpStop::Broken);
         }
-        let file = self.disk.bytes();
+        let file = self.disk.room();
         let mut view = FileView::of(file);
         match load_state(alloc, &mut view) {
             Ok(loaded) => put_dump(alloc, file, &loaded, out),
@@ -72,7 +72,7 @@ impl ImageStore {
         text: &[u8],
     ) -> Result<ImageStore, LoadFault>
         requires ranges { IsSuperBlock (block_for k names) }
-        requires empty { room.bytes.items ≡ [] }
+        requires empty { room.file ≡ [] }
         ensures loaded { IfOk result (HasLoaded k names text.now) }
         ensures fresh { IfOk result (λ s. IsFresh CLASSES s.store) }
         ensures noted { IfOk result (IsNotedOf []) }
@@ -100,13 +100,13 @@ fn stop_for(fault: OpenFault) -> DumpStop
 /// Copies the dump of a file that was read to the front of `out`, out of memory of its own.
 fn put_dump(
     alloc: Global,
-    file: &[u8],
+    file: &Room,
     loaded: &BoxedLoaded<CLASSES>,
     out: &mut [u8],
 ) -> Result<u64, DumpStop>
     requires loaded { KeepsLoaded (unboxed loaded.now) }
-    requires from { IsLoadedFrom file.now (unboxed loaded.now) }
-    ensures dumps { CopiesDump (unboxed loaded.now) file.now out.new result }
+    requires from { IsLoadedFrom file.now.file (unboxed loaded.now) }
+    ensures dumps { CopiesDump (unboxed loaded.now) file.now.file out.new result }
     ensures refused { OnErr result (out.new ≡ out.old) }
     ensures same_length { length out.new ≡ length out.old }
 {
@@ -143,8 +143,8 @@ fn copy_whole(text: &[u8], out: &mut [u8]) -> Result<u64, DumpStop>
 
 /// Opens the store in a file that was loaded.
 fn open_loaded(alloc: Global, mut disk: ImageDisk) -> Result<ImageStore, LoadFault>
-    ensures opened { IfOk result (λ s. IsOpening CLASSES (image_state disk) (disk_of s) (Ok s.store)) }
-    ensures noted { IfOk result (λ s. IsLog disk.start s.noting.history s.noting.text) }
+    ensures opened { IfOk result (λ s. IsOpening CLASSES (image_state disk.entry) (disk_of s) (Ok s.store)) }
+    ensures noted { IfOk result (λ s. IsLog disk.entry.start s.noting.history s.noting.text) }
     ensures ended { IfOk result (λ s. EndedBy s.noting.history.turn s.noting.history.calls) }
     ensures refused { IfErr result (λ fault. (fault ≡ LoadFault.NoMemory) ⊎ (fault ≡ LoadFault.Disk)) }
 {

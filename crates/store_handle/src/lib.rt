@@ -18,7 +18,7 @@ use std::marker::Model;
 pub enum Stage {
     /// It has no file.
     Closed,
-    /// It has a file that is being fed, and the memory of its log.
+    /// It has a file and the memory of a log, and no store yet.
     Fed(Room, Log),
     /// It has an open store.
     Open(ImageStore),
@@ -48,7 +48,7 @@ impl Handle {
 
     /// Takes the pointer.
     pub fn of(e: Erased<Held, Global>) -> Handle
-        ensures { result.value ≡ e.value }
+        ensures { result.value ≡ e.entry.value }
     {
         let Erased { ptr, alloc } = e;
         Handle {

@@ -8,15 +8,15 @@ use Rattle.disk_image.proofs.disk.ImageDiskDisk.set_len.Goals as goal
 pub invariant_of-self : goal.invariant_of-self
 invariant_of-self c =
     let s = c.self.inside in
-    noting_refused (seen_of s.course.trail.history s.start.value.history s.room s.log)
-    (seen_of c.fail.new.self.trail.history s.start.value.history s.room s.log) (file_in s.room)
-    c.self.invariant c.fail.ensures refl refl
+    noting_refused (seen_of s.course s.start.value s.room s.log)
+    (seen_of c.fail.new.self s.start.value s.room s.log) (file_in s.room)
+    c.self.invariant c.fail.ensures.history refl refl
 
 pub invariant_of-self-2 : goal.invariant_of-self-2
 invariant_of-self-2 c =
     let s = c.self.inside in
-    noting_made (Sized c.args.n) (seen_of s.course.trail.history s.start.value.history s.room s.log)
-    (seen_of c.set_len.new.self.trail.history s.start.value.history c.resize.new.self c.add.new.self)
+    noting_made (Sized c.args.n) (seen_of s.course s.start.value s.room s.log)
+    (seen_of c.set_len.new.self s.start.value c.resize.new.self c.add.new.self)
     (file_in s.room) (file_in c.resize.new.self) c.self.invariant (omega arith) tt c.set_len.ensures refl
     c.add.ensures.text c.resize.ensures.file
 
@@ -24,13 +24,13 @@ pub returns-then-n-most-clause-frame : goal.returns-then-n-most-clause-frame
 returns-then-n-most-clause-frame c =
     let s = c.self.inside in
     after_no_length c.self.view_is c.self.invariant c.args.n
-    (seen_of c.fail.new.self.trail.history s.start.value.history s.room s.log)
-    (refused_is c.self.view_is c.fail.ensures refl refl refl refl)
+    (seen_of c.fail.new.self s.start.value s.room s.log)
+    (refused_is c.self.view_is c.fail.ensures.history refl refl refl refl)
 
 pub returns-clause-frame : goal.returns-clause-frame
 returns-clause-frame c =
     let s = c.self.inside in
     after_length c.self.view_is c.self.invariant c.args.n
-    (seen_of c.set_len.new.self.trail.history s.start.value.history c.resize.new.self c.add.new.self)
+    (seen_of c.set_len.new.self s.start.value c.resize.new.self c.add.new.self)
     (made_is c.self.view_is c.set_len.ensures refl c.add.ensures.text c.resize.ensures.most
-    c.add.ensures.same_length)
+    c.add.ensures.most)

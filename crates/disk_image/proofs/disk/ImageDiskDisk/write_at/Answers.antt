@@ -1,9 +1,5 @@
-use Rattle.std.proofs.Common.{arith, rules, refl, sym, subst, length, ◌≤◌, ◌+◌, ◌∙◌, ◌≡◌, ap}
-use Rattle.std.proofs.lemmas.Bool.{le-leb}
-use Rattle.std.specs.Prelude.{if◌then◌else◌}
-use Rattle.byte_ranges.specs.Ranges.{overwritten}
+use Rattle.std.proofs.Common.{arith, rules, refl, length, ◌≤◌, ◌+◌, ◌∙◌}
 use Rattle.disk_history.specs.Changes.RecordedCall.{Wrote}
-use Rattle.disk_image.specs.Notings.{Noting, content}
 use Rattle.disk_image.proofs.FrameLaws.{after_no_write, after_write, made_is, refused_is}
 use Rattle.disk_image.proofs.LogLaws.{noting_made, noting_refused}
 use Rattle.disk_image.proofs.Seen.{file_in, seen_of}
@@ -13,17 +9,17 @@ use Rattle.disk_history.proofs.HistoryLaws.{changed_within}
 pub invariant_of-self : goal.invariant_of-self
 invariant_of-self c =
     let s = c.self.inside in
-    noting_refused (seen_of s.course.trail.history s.start.value.history s.room s.log)
-    (seen_of c.fail.new.self.trail.history s.start.value.history s.room s.log) (file_in s.room)
-    c.self.invariant c.fail.ensures refl refl
+    noting_refused (seen_of s.course s.start.value s.room s.log)
+    (seen_of c.fail.new.self s.start.value s.room s.log) (file_in s.room)
+    c.self.invariant c.fail.ensures.history refl refl
 
 pub invariant_of-self-2 : goal.invariant_of-self-2
 invariant_of-self-2 c =
     let s = c.self.inside in
     let within : c.args.pos + length c.args.bytes.now ≤ length (file_in s.room) = search rules in
     noting_made (Wrote c.args.pos c.args.bytes.now)
-    (seen_of s.course.trail.history s.start.value.history s.room s.log)
-    (seen_of c.write.new.self.trail.history s.start.value.history c.put.new.self c.add.new.self)
+    (seen_of s.course s.start.value s.room s.log)
+    (seen_of c.write.new.self s.start.value c.put.new.self c.add.new.self)
     (file_in s.room) (file_in c.put.new.self) c.self.invariant (omega arith, omega arith) within
     c.write.ensures refl c.add.ensures.text
     (c.put.ensures.file ∙ changed_within (file_in s.room) c.args.pos c.args.bytes.now within)
@@ -32,13 +28,13 @@ pub returns-then-not-fits-clause-frame : goal.returns-then-not-fits-clause-frame
 returns-then-not-fits-clause-frame c =
     let s = c.self.inside in
     after_no_write c.self.view_is c.self.invariant c.args.pos (length c.args.bytes.now)
-    (seen_of c.fail.new.self.trail.history s.start.value.history s.room s.log)
-    (refused_is c.self.view_is c.fail.ensures refl refl refl refl)
+    (seen_of c.fail.new.self s.start.value s.room s.log)
+    (refused_is c.self.view_is c.fail.ensures.history refl refl refl refl)
 
 pub returns-clause-frame : goal.returns-clause-frame
 returns-clause-frame c =
     let s = c.self.inside in
     after_write c.self.view_is c.self.invariant c.args.pos c.args.bytes.now
-    (seen_of c.write.new.self.trail.history s.start.value.history c.put.new.self c.add.new.self)
+    (seen_of c.write.new.self s.start.value c.put.new.self c.add.new.self)
     (made_is c.self.view_is c.write.ensures refl c.add.ensures.text c.put.ensures.most
-    c.add.ensures.same_length)
+    c.add.ensures.most)

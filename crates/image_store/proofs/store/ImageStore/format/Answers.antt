@@ -17,7 +17,7 @@ returns-in-Ok-clause-made c =
       store = c.in-Ok.store;
       noting = c.open-opened.new.disk;
     })) c.requires.empty
-    (opening_noted c.args.room.bytes.items c.args.room.most (length c.args.log.text.items) c.in-Ok.store
+    (opening_noted c.args.room.file c.args.room.most c.args.log.most c.in-Ok.store
     c.open-opened.new.disk
     (c.open-opened.ensures.frame.stays.same_mount ∙ c.format.ensures.frame.stays.same_mount
     ∙ ap (λ (n : Noting). (image_state n).last_mount) c.new-disk.ensures) c.is_noted.ensures.log
@@ -26,7 +26,7 @@ returns-in-Ok-clause-made c =
     let first = done_ok c.format.result calm (c.format.ensures.table refl) in
     let rests = done_ok c.format.result calm (c.format.ensures.rests refl) in
     let most = c.args.room.most in
-    let log_room = length c.args.log.text.items in
+    let log_room = c.args.log.most in
     let left = made_left c.args.k c.args.names a c.in-Ok.store c.open-opened.new.disk is first refl
     c.in-Ok.ensures (image_state (lent [] most log_room)) rests
     (from_none c.new-disk.result most log_room a (IsNoStoreOrEmpty c.args.k c.args.names)

@@ -6,7 +6,7 @@ use Rattle.image_store.proofs.store.ImageStore.open.Goals as goal
 
 pub returns-in-Ok-clause-noted : goal.returns-in-Ok-clause-noted
 returns-in-Ok-clause-noted c =
-    opening_noted c.args.room.bytes.items c.args.room.most (length c.args.log.text.items) c.in-Ok.store
+    opening_noted c.args.room.file c.args.room.most c.args.log.most c.in-Ok.store
     c.open-opened.new.disk
     (c.open-opened.ensures.frame.stays.same_mount
     ∙ ap (λ (n : Noting). (image_state n).last_mount) c.new-disk.ensures) c.is_noted.ensures.log
