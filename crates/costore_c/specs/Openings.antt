@@ -1,5 +1,5 @@
 -- What opening and closing do to what a handle holds.
-use Rattle.std.specs.Prelude.{◌≡◌, ◌<◌, ℤ, ℕ, length, pos, Ok}
+use Rattle.std.specs.Prelude.{◌≡◌, ◌<◌, ℤ, ℕ, List, length, pos, Ok}
 use Rattle.size_class.specs.declared.TheConstants.{CLASSES}
 use Rattle.disk_image.specs.Disks.{image_state}
 use Rattle.disk_image.specs.Notings.{lent}
@@ -15,6 +15,10 @@ use Rattle.image_store.specs.Noted.{IsNotedOf}
 use Rattle.store_handle.specs.declared.Stage.{Stage}
 use Rattle.store_handle.specs.declared.Stage.TheVariants as stage
 use Rattle.costore_c.specs.Answers.{bad_number_code, closed_code, not_fed_code, opening_code}
+
+-- a file of so many bytes doesn't fit its region
+abbrev pub IsTooLong : ℕ → List ℕ → Type 0
+IsTooLong n region = length region < n
 
 -- a store was opened of the file, as the store opens one that is at rest, and its log has the calls of that;
 -- or the handle is closed, and the code says why

@@ -1,9 +1,9 @@
 //! Handles: making one over a file, opening and closing its store.
-ghost use Rattle.std.specs.Prelude.{◌≡◌, ◌⊎◌, pos};
+ghost use Rattle.std.specs.Prelude.{◌≡◌, ◌⊎◌, ◌↔◌, pos};
 ghost use Rattle.slot_codec.specs.Readable.{IsSuperBlock};
 ghost use Rattle.slot_pair.specs.Formats.{block_for};
 ghost use Rattle.costore_c.specs.Answers.{bad_number_code, no_memory_code};
-ghost use Rattle.costore_c.specs.Openings.{Closes, Formats, IsOpenOf, MakesFed, OpensFed};
+ghost use Rattle.costore_c.specs.Openings.{Closes, Formats, IsOpenOf, IsTooLong, MakesFed, OpensFed};
 ghost use Rattle.store_handle.specs.declared.Stage.TheVariants as Stage;
 
 use crate::codes::{BAD_NUMBER, CLOSED, DONE, NO_MEMORY, NOT_FED, of_opening};
@@ -15,9 +15,9 @@ use std::alloc::Global;
 use std::mem;
 use store_handle::{Handle, Held, Stage};
 
-/// Makes a handle over two lent regions, and writes its pointer. One has the file's `length` bytes at its
-/// front, as they are on the device, and as many bytes as the file may come to have; the calls are noted in
-/// the other. Where the file is longer than its region, or there is no memory for the handle, it says so, and
+/// Makes a handle over two lent regions, and writes its pointer. The first has the file's `length` bytes at
+/// its front, as they are on the device, and as many bytes as the file can have; the second is for the log of
+/// each call. If the file is longer than its region, or there is no memory for the handle, it says so and
 /// writes nothing.
 #[unsafe(no_mangle)]
 pub extern "C" fn costore_new(
@@ -28,6 +28,7 @@ pub extern "C" fn costore_new(
     out: &mut *mut u8,
 ) -> i32
     ensures answers { (result ≡ pos 0) ⊎ (result ≡ no_memory_code) ⊎ (result ≡ bad_number_code) }
+    ensures too_long { (result ≡ bad_number_code) ↔ IsTooLong length file.bytes }
     ensures same { (result ≡ no_memory_code) ⊎ (result ≡ bad_number_code) → out.new ≡ out.old }
 {
     let file = file.leak();
