@@ -1,22 +1,24 @@
 /* costore: a store of named objects in one file, as a library.
 
-   It makes no call of the system; it asks for malloc, realloc and free, memcpy, memmove and memset. A handle holds the
-   whole file in memory, and a log. After a call, the log lists what the program must change in the file before its next
-   call on the handle. costore_file.h and costore_file.c do that on a POSIX system. The order of the calls:
+   It makes no call of the system; it asks for malloc, realloc and free, memcpy, memmove and memset. A handle works over
+   memory that the program lends: one region has the file's bytes, as a private mapping of the file has them; the other
+   is for the log. After a call, the log lists what the program must change in the file before its next call on the
+   handle. costore_file.h and costore_file.c do that on a POSIX system. The order of the calls:
 
-       costore_new(room, log, &store.at);                memory for the file and for the log
-       costore_feed(&store, bytes, n);                   the bytes of the file, all of them, in order
-       costore_open(&store);                             the store in it (or costore_format: a new one)
+       costore_new(file, length, log, &store.at);        lends the two regions
+       costore_open(&store);                             the store in the file (or costore_format: a new one)
        costore_put(&store, name, n, object, m);          a change: also costore_del, costore_keep, ..
-       costore_lengths, costore_log                      replay the log on the file; then the next change
-       costore_close(&store); costore_free(store);
+       costore_lengths(&store, &used, &length);          replay the first `used` bytes of log.at on the file; then the
+                                                         next change
+       costore_close(&store); costore_free(store);       the regions are the program's again
 
    Words used here:
 
    checkpoint   the state of all objects to which a crash returns. costore_keep saves one, and so does each flush.
    flush        moving objects so that the file keeps its bound; not a flush of memory to the device.
    in hand      a flush that costore_step makes one move at a time, begun and not yet settled.
-   room         the most bytes that the file can have while the handle is in use.
+   region       memory that the program lends to a handle: a pointer and a count of bytes.
+   room         the most bytes that the file can have while the handle is in use: as many as its region has.
    log          the changes to the file that one call asks for, in order. To replay it is to make them.
    K, NAMES     numbers fixed when the file is made: a segment of v bytes has a buffer of v / K bytes, and at most
                 NAMES objects can be live.
@@ -34,14 +36,15 @@
 extern "C" {
 #endif
 
-/* A handle: one open store, or one that is fed, or closed. One call at a time uses it. Only costore_new writes `at`. */
+/* A handle: one that has a file and no store yet, or one open store, or closed. One call at a time uses it. Only
+   costore_new writes `at`. */
 typedef struct costore {
     void *at;
 } costore;
 
 /* Answers. At and above 0 the call was done. Below 0 nothing must be replayed, and an open store is as it was, except
-   after COSTORE_DISK. Every call on a handle can answer COSTORE_CLOSED, except costore_feed, costore_open,
-   costore_format, costore_load and costore_in_hand; below it is listed for costore_close alone. */
+   after COSTORE_DISK. Every call on a handle can answer COSTORE_CLOSED, except costore_open, costore_format,
+   costore_load and costore_in_hand; below it is listed for costore_close alone. */
 enum {
     COSTORE_DONE = 0,        /* done; no checkpoint was saved */
     COSTORE_KEPT = 1,        /* done, and a checkpoint of the present state was saved */
@@ -63,7 +66,7 @@ enum {
     COSTORE_IDLE = -14,      /* no flush is in hand */
     COSTORE_NO_STORE = -15,  /* the file is no store, or a damaged one */
     COSTORE_BAD_NUMBER = -16,/* a number is out of its range */
-    COSTORE_NOT_FED = -17,   /* the handle isn't being fed, or its file isn't empty */
+    COSTORE_NOT_FED = -17,   /* the handle has a store already or is closed, or its file isn't empty */
     COSTORE_LINE = -18,      /* the text is not a batch, or not a dump */
     COSTORE_UNFIT = -19,     /* the batch removes a name that isn't there, or leaves no room for the name !batch */
     COSTORE_NO_BATCH = -20,  /* the object COSTORE_BATCH is not a batch */
@@ -73,7 +76,7 @@ enum {
 
 /* ---- opening and closing ---- */
 
-/* Computes the sizes to pass to costore_new.
+/* Computes how large the two regions of costore_new must be.
 
    k, names: as of costore_format. An existing file has k at byte 8 and names at byte 16, 8 bytes each, least first.
    volume:   the most bytes that all objects have together, below 2^48.
@@ -86,26 +89,36 @@ enum {
    COSTORE_DONE; COSTORE_BAD_NUMBER, and nothing is written. */
 int32_t costore_need(uint64_t k, uint64_t names, uint64_t volume, uint64_t largest, uint64_t *room, uint64_t *log);
 
-/* Makes a handle: takes memory for a file of at most `room` bytes and for a log of `log` bytes, and writes the handle's
-   pointer, to be the field of a costore. The handle is then being fed; its file is empty. The log's memory is touched,
-   that of the file is not until it grows.
+/* A region: n bytes from `at` on, that can be read and written. `at` is not null, also where n is 0. */
+typedef struct costore_region {
+    uint8_t *at;
+    size_t n;
+} costore_region;
 
-   COSTORE_DONE; COSTORE_NO_MEMORY, and nothing is written. */
-int32_t costore_new(uint64_t room, uint64_t log, void **at);
+/* Makes a handle over two regions, and writes its pointer, to be the field of a costore. It touches neither region.
+   Until the handle is closed or freed nothing but the library writes there.
 
-/* Takes in the next n bytes of the file, as they are on the device.
+   file:   its first `length` bytes are those of the file on the device, all of which was synced. Its other bytes can be
+           anything. The file can have file.n bytes. Between two calls, once the log is replayed, the program can put
+           other pages in the place of these, as long as each byte of the file stays the same: a private mapping of the
+           file has them.
+   length: how many bytes the file has; 0 where a store is to be made.
+   log:    the log of each call is written at its start. costore_lengths tells how many bytes it has; the program reads
+           them there until the next call.
 
-   COSTORE_DONE; COSTORE_SHORT (they exceed the room; none was taken); COSTORE_NOT_FED. */
-int32_t costore_feed(costore *store, const uint8_t *bytes, size_t n);
+   COSTORE_DONE; COSTORE_BAD_NUMBER (length exceeds file.n) and COSTORE_NO_MEMORY, and nothing is written. */
+int32_t costore_new(costore_region file, uint64_t length, costore_region log, void **at);
 
-/* Opens the store in the file that was fed. All of it must have been synced before it was read. A file that is longer
-   than its layout is cut. If the file was interrupted within a flush, this finishes the flush. The log has all that.
+/* Opens the store in the file. It reads the head of the file: the table of the names, and no object. A file that is
+   longer than its layout is cut. If the file was interrupted within a flush, this finishes the flush. The log has all
+   that.
 
    COSTORE_DONE; COSTORE_NOT_FED, and the handle stays as it is. Else the handle is closed: COSTORE_NO_STORE;
-   COSTORE_NO_MEMORY; COSTORE_DISK (the log is too small for that flush: nothing was made; try with a larger one). */
+   COSTORE_NO_MEMORY; COSTORE_DISK (the log is too small for that flush: replay nothing, and lend the file's bytes anew
+   with a larger log). */
 int32_t costore_open(costore *store);
 
-/* Makes a store without names in a file of length 0, to which nothing was fed, and opens it.
+/* Makes a store without names in a file of length 0, and opens it.
 
    k:     K, 2 to 64. A larger k makes a smaller file and more moves.
    names: NAMES, 16 to 65,536: how many names can be live. Each takes 160 bytes of the file.
@@ -125,8 +138,8 @@ int32_t costore_format(costore *store, uint64_t k, uint64_t names);
    If you crash while replaying the log, the file is no store, an empty store, or complete. */
 int32_t costore_load(costore *store, const uint8_t *text, size_t n, uint64_t k, uint64_t names, uint64_t *number);
 
-/* Closes the store: gives back the memory of the file and of the log. It saves nothing: what was changed since the last
-   saved checkpoint is lost.
+/* Closes the store: gives back its memory, and no longer uses the two regions. It saves nothing: what was changed since
+   the last saved checkpoint is lost.
 
    COSTORE_DONE; COSTORE_CLOSED. */
 int32_t costore_close(costore *store);
@@ -280,6 +293,9 @@ int32_t costore_dump(costore *store, uint8_t *out, size_t m, uint64_t *size);
 int32_t costore_lengths(costore *store, uint64_t *log, uint64_t *file);
 
 /* Copy m bytes, from position `at` on, of the log, or of the file as it is once the log is replayed.
+
+   The program reads the log without a copy at the start of its region. Where the file has zeros that nobody wrote, its
+   region can have other bytes; costore_file copies the zeros.
 
    COSTORE_DONE; COSTORE_SHORT (there are fewer; nothing is written). */
 int32_t costore_log(costore *store, uint64_t at, uint8_t *out, size_t m);

@@ -12,42 +12,71 @@
 #include <sys/stat.h>
 #include <unistd.h>
 
-enum { PIECE = 1 << 16, FRONT = 64 };
+#if defined(__linux__) && !defined(COSTORE_FILE_READS)
+#include <sys/mman.h>
+#define MAPS 1
+#else
+#define MAPS 0
+#endif
 
-/* Reads up to n bytes at a position, fewer only where the file ends, and answers how many. */
-static int64_t read_at(int fd, uint8_t *out, size_t n, uint64_t at) {
-    size_t had = 0;
+enum { PIECE = 1 << 16, FRONT = 64, MOST_READ = 1 << 30, LOG_KEPT = 1 << 20, BLANK = 16 };
+
+/* What is known of the region's pages that may have bytes of their own: how many are marked, and which parts of the
+   file are blank. These are what it grew by and no log wrote yet. The library knows that the file has zeros there,
+   whatever the memory has. But it knows two such parts only; where there would be another it writes zeros into one. */
+struct costore_touched {
+    uint64_t pages;
+    int blanks;
+    struct costore_span {
+        uint64_t from, to;
+    } blank[BLANK];
+};
+
+static void tick(const costore_file_t *f) {
+    if (f->before)
+        f->before(f->with);
+}
+
+/* ---- calls on the file ---- */
+
+/* Reads up to n bytes from the file's start on, fewer only where the file ends, and answers how many. */
+static int64_t read_front(int fd, uint8_t *out, uint64_t n) {
+    uint64_t had = 0;
     while (had < n) {
-        ssize_t done = pread(fd, out + had, n - had, (off_t)(at + had));
+        uint64_t left = n - had;
+        ssize_t done = pread(fd, out + had, left < MOST_READ ? (size_t)left : MOST_READ, (off_t)had);
         if (done < 0 && errno == EINTR)
             continue;
         if (done < 0)
             return -1;
         if (done == 0)
             break;
-        had += (size_t)done;
+        had += (uint64_t)done;
     }
     return (int64_t)had;
 }
 
 /* Writes all the bytes at a position. */
-static int write_at(int fd, const uint8_t *bytes, size_t n, uint64_t at) {
+static int write_at(const costore_file_t *f, const uint8_t *bytes, uint64_t n, uint64_t at) {
     while (n > 0) {
-        ssize_t done = pwrite(fd, bytes, n, (off_t)at);
+        tick(f);
+        ssize_t done = pwrite(f->fd, bytes, (size_t)n, (off_t)at);
         if (done < 0 && errno == EINTR)
             continue;
         if (done <= 0)
             return -1;
-        bytes += done, n -= (size_t)done, at += (uint64_t)done;
+        bytes += done, n -= (uint64_t)done, at += (uint64_t)done;
     }
     return 0;
 }
 
-static uint64_t number(const uint8_t *bytes) {
-    uint64_t n = 0;
-    for (int i = 7; i >= 0; i--)
-        n = n << 8 | bytes[i];
-    return n;
+static int set_length(const costore_file_t *f, uint64_t length) {
+    int done;
+    tick(f);
+    do
+        done = ftruncate(f->fd, (off_t)length);
+    while (done < 0 && errno == EINTR);
+    return done;
 }
 
 /* Whether the name still leads to the open file, or the system can't tell. */
@@ -59,61 +88,294 @@ static bool leads(const costore_file_t *f) {
 }
 
 /* Syncs the file. Where the name doesn't lead to it, nobody would find what was synced. */
-static int32_t sync_data(costore_file_t *f) {
+static int32_t sync_data(const costore_file_t *f) {
+    tick(f);
     if (fdatasync(f->fd))
         return COSTORE_SYSTEM;
     return leads(f) ? COSTORE_DONE : COSTORE_GONE;
 }
 
-static int set_length(int fd, uint64_t length) {
-    int done;
-    do
-        done = ftruncate(fd, (off_t)length);
-    while (done < 0 && errno == EINTR);
-    return done;
+/* ---- the two regions ---- */
+
+static uint64_t page_size(void) {
+    return (uint64_t)sysconf(_SC_PAGESIZE);
 }
 
-/* Makes the call of one entry of the log, whose bytes begin at `at`. A write is made in pieces. */
-static int32_t make_entry(costore_file_t *f, int kind, uint64_t where, uint64_t count, uint64_t at) {
-    if (f->before)
-        f->before(f->with);
-    if (kind == 2)
-        return set_length(f->fd, where) ? COSTORE_SYSTEM : COSTORE_DONE;
-    if (kind == 3)
-        return sync_data(f);
-    while (count > 0) {
-        size_t n = count < PIECE ? (size_t)count : PIECE;
-        if (costore_log(&f->store, at, f->piece, n) != COSTORE_DONE)
-            return COSTORE_SYSTEM;
-        if (write_at(f->fd, f->piece, n, where))
-            return COSTORE_SYSTEM;
-        at += n, where += n, count -= n;
-        if (count > 0 && f->before)
-            f->before(f->with);
-    }
+static uint64_t down(uint64_t at) {
+    return at - at % page_size();
+}
+
+static uint64_t up(uint64_t at) {
+    return down(at + page_size() - 1);
+}
+
+#if MAPS
+
+/* Addresses for n bytes, which take memory where they are written. Core dumps leave them out. */
+static void *reserve(size_t n) {
+    void *at = mmap(NULL, n, PROT_READ | PROT_WRITE, MAP_PRIVATE | MAP_ANONYMOUS | MAP_NORESERVE, -1, 0);
+    if (at == MAP_FAILED)
+        return NULL;
+    madvise(at, n, MADV_DONTDUMP);
+    return at;
+}
+
+static void release(void *at, size_t n) {
+    munmap(at, n);
+}
+
+/* Puts pages of the file, or empty ones where `fd` is -1, in the place of those from one position up to another. */
+static int put_pages(const costore_file_t *f, int fd, uint64_t from, uint64_t to) {
+    int how = MAP_PRIVATE | MAP_FIXED | MAP_NORESERVE | (fd < 0 ? MAP_ANONYMOUS : 0);
+    void *at = f->file.at + from;
+    tick(f);
+    if (mmap(at, to - from, PROT_READ | PROT_WRITE, how, fd, fd < 0 ? 0 : (off_t)from) == MAP_FAILED)
+        return -1;
+    madvise(at, to - from, MADV_DONTDUMP);
+    return 0;
+}
+
+/* Gives back what pages have of their own. Where the system refuses that, they keep it. */
+static void give_back(const costore_file_t *f, void *at, uint64_t n) {
+    tick(f);
+    madvise(at, n, MADV_DONTNEED);
+}
+
+#else
+
+static void *reserve(size_t n) {
+    return malloc(n);
+}
+
+static void release(void *at, size_t n) {
+    (void)n;
+    free(at);
+}
+
+static int put_pages(const costore_file_t *f, int fd, uint64_t from, uint64_t to) {
+    (void)f, (void)fd, (void)from, (void)to;
+    errno = ENODEV;
+    return -1;
+}
+
+static void give_back(const costore_file_t *f, void *at, uint64_t n) {
+    (void)f, (void)at, (void)n;
+}
+
+#endif
+
+static bool take_region(costore_region *region, uint64_t n) {
+    region->n = (size_t)n;
+    region->at = n < SIZE_MAX / 2 ? reserve(n > 0 ? region->n : 1) : NULL;
+    return region->at;
+}
+
+static void leave_region(costore_region *region) {
+    if (region->at)
+        release(region->at, region->n > 0 ? region->n : 1);
+}
+
+/* Takes addresses for the file and a mark for each of its pages, and for the log: for the larger one of two, or else
+   for the smaller one. */
+static int32_t take_regions(costore_file_t *f, uint64_t room, uint64_t log, uint64_t larger_log) {
+    if (!take_region(&f->file, room) || (!f->reads && !take_region(&f->marks, room / page_size() / 8 + 1)))
+        return COSTORE_NO_MEMORY;
+    if (larger_log > log && take_region(&f->log, larger_log))
+        return COSTORE_DONE;
+    return take_region(&f->log, log) ? COSTORE_DONE : COSTORE_NO_MEMORY;
+}
+
+/* Maps the file over the pages from one position up to another. Whether it can be mapped is known by the first try. If
+   it can't, the region has all its bytes as memory. */
+static int32_t map_file(costore_file_t *f, uint64_t from, uint64_t to) {
+    if (put_pages(f, f->fd, from, to) == 0)
+        return COSTORE_DONE;
+    if (from > 0 || (errno != ENODEV && errno != EINVAL && errno != EACCES))
+        return COSTORE_SYSTEM;
+    f->reads = true;
     return COSTORE_DONE;
+}
+
+/* Maps a file, or else reads it. */
+static int32_t show_file(costore_file_t *f, uint64_t length) {
+    f->length = f->mapped = length;
+    if (!f->reads && map_file(f, 0, length) != COSTORE_DONE)
+        return COSTORE_SYSTEM;
+    if (!f->reads)
+        return COSTORE_DONE;
+    int64_t had = read_front(f->fd, f->file.at, length);
+    f->length = had < 0 ? 0 : (uint64_t)had;
+    return had < 0 ? COSTORE_SYSTEM : COSTORE_DONE;
+}
+
+/* ---- what the region has of its own ---- */
+
+/* Marks the pages of a part of the file. */
+static void touch(costore_file_t *f, uint64_t from, uint64_t to) {
+    uint64_t size = page_size(), end = (to + size - 1) / size;
+    for (uint64_t page = from / size; page < end; page++) {
+        uint8_t *bits = &f->marks.at[page / 8], bit = (uint8_t)(1 << page % 8);
+        f->touched->pages += !(*bits & bit);
+        *bits |= bit;
+    }
+}
+
+/* There is another blank part, so that the library may have written zeros. */
+static void touch_blank(costore_file_t *f) {
+    for (int i = 0; i < f->touched->blanks; i++)
+        touch(f, f->touched->blank[i].from, f->touched->blank[i].to);
+}
+
+/* The file grew by a part, which is blank. */
+static void add_blank(costore_file_t *f, uint64_t from, uint64_t to) {
+    struct costore_touched *t = f->touched;
+    bool joined = false;
+    touch_blank(f);
+    for (int i = 0; i < t->blanks; i++)
+        if (t->blank[i].to == from)
+            t->blank[i].to = to, joined = true;
+    if (!joined && t->blanks < BLANK)
+        t->blank[t->blanks++] = (struct costore_span){from, to};
+    else if (!joined)
+        t->blank[0].to = to;
+}
+
+/* A part was written or cut off, and is blank no more. */
+static void leave_blank(costore_file_t *f, uint64_t from, uint64_t to) {
+    struct costore_touched *t = f->touched;
+    for (int i = t->blanks - 1; i >= 0; i--) {
+        struct costore_span *it = &t->blank[i];
+        if (to <= it->from || it->to <= from)
+            continue;
+        if (from <= it->from && it->to <= to) {
+            *it = t->blank[--t->blanks];
+        } else if (from <= it->from) {
+            it->from = to;
+        } else if (it->to <= to) {
+            it->to = from;
+        } else {
+            touch_blank(f);
+            if (t->blanks < BLANK) {
+                t->blank[t->blanks++] = (struct costore_span){to, it->to};
+                it->to = from;
+            }
+        }
+    }
+}
+
+/* Whether a page is marked; then the mark is taken away. */
+static bool was_touched(const costore_file_t *f, uint64_t page) {
+    uint8_t *bits = &f->marks.at[page / 8], bit = (uint8_t)(1 << page % 8);
+    bool touched = *bits & bit;
+    *bits &= (uint8_t)~bit;
+    return touched;
+}
+
+/* Maps the file as far as it isn't, and gives back what the marked pages have of their own: the file has the same. */
+static int32_t give_back_all(costore_file_t *f) {
+    uint64_t page = 0, size = page_size(), end = up(f->file.n) / size;
+    if (f->length > f->mapped && map_file(f, down(f->mapped), f->length) != COSTORE_DONE)
+        return COSTORE_SYSTEM;
+    f->mapped = f->length;
+    while (!f->reads && page < end) {
+        uint64_t from = page;
+        if (page % 8 == 0 && f->marks.at[page / 8] == 0) {
+            page += 8;
+            continue;
+        }
+        while (page < end && was_touched(f, page))
+            page++;
+        if (page > from)
+            give_back(f, f->file.at + from * size, (page - from) * size);
+        page++;
+    }
+    f->touched->pages = 0;
+    return COSTORE_DONE;
+}
+
+/* ---- the replay of a log ---- */
+
+typedef struct entry_t {
+    int kind;
+    uint64_t where, count;
+    const uint8_t *bytes;
+} entry_t;
+
+static uint64_t number(const uint8_t *bytes) {
+    uint64_t n = 0;
+    for (int i = 7; i >= 0; i--)
+        n = n << 8 | bytes[i];
+    return n;
+}
+
+/* The entry of the log that begins at `at`, if one does, and where the next one begins. */
+static bool next_entry(const costore_file_t *f, uint64_t log, uint64_t *at, entry_t *entry) {
+    const uint8_t *head = f->log.at + *at;
+    if (log - *at < COSTORE_ENTRY_HEAD)
+        return false;
+    *entry = (entry_t){head[0], number(head + 1), number(head + 9), head + COSTORE_ENTRY_HEAD};
+    *at += COSTORE_ENTRY_HEAD + entry->count;
+    return true;
+}
+
+static int32_t make_entry(const costore_file_t *f, const entry_t *entry) {
+    if (entry->kind == 3)
+        return sync_data(f);
+    int done = entry->kind == 2 ? set_length(f, entry->where) : write_at(f, entry->bytes, entry->count, entry->where);
+    return done ? COSTORE_SYSTEM : COSTORE_DONE;
+}
+
+/* After a replay: no page past the file's end is one of the file, and not too many have bytes of their own. */
+static int32_t settle(costore_file_t *f, uint64_t log, uint64_t length) {
+    uint64_t at = 0, end = f->length;
+    for (entry_t it; next_entry(f, log, &at, &it);) {
+        if (it.kind == 1) {
+            leave_blank(f, it.where, it.where + it.count);
+            touch(f, it.where, it.where + it.count);
+        } else if (it.kind == 2) {
+            if (it.where > end)
+                add_blank(f, end, it.where);
+            else
+                leave_blank(f, it.where, end);
+            end = it.where;
+        }
+    }
+    f->length = length;
+    if (up(length) < up(f->mapped) && put_pages(f, -1, up(length), up(f->mapped)))
+        return COSTORE_SYSTEM;
+    f->mapped = length < f->mapped ? length : f->mapped;
+    return f->touched->pages * page_size() < COSTORE_PENDING_PAGES ? COSTORE_DONE : give_back_all(f);
+}
+
+/* The file is used no more. What the device has of it may have another length than the library's, so that its region
+   can't be read either. */
+static int32_t fail(costore_file_t *f, int32_t code) {
+    int why = errno;
+    f->failed = true;
+    costore_close(&f->store);
+    errno = why;
+    return code;
 }
 
 /* Replays the log: makes its calls, in order. The first that fails ends that, and the use of the file. */
 static int32_t replay(costore_file_t *f, int32_t code) {
-    uint64_t log, length, at = 0;
+    uint64_t log = 0, length = 0, at = 0;
+    int32_t made = COSTORE_DONE;
     if (code < COSTORE_DONE)
         return code;
     costore_lengths(&f->store, &log, &length);
-    while (at + COSTORE_ENTRY_HEAD <= log) {
-        uint8_t head[COSTORE_ENTRY_HEAD];
-        costore_log(&f->store, at, head, sizeof head);
-        uint64_t count = number(head + 9);
-        at += COSTORE_ENTRY_HEAD;
-        int32_t made = make_entry(f, head[0], number(head + 1), count, at);
-        if (made != COSTORE_DONE) {
-            f->failed = true;
-            return made;
-        }
-        at += count;
-    }
+    for (entry_t it; made == COSTORE_DONE && next_entry(f, log, &at, &it);)
+        made = make_entry(f, &it);
+    if (made == COSTORE_DONE && log > 0 && !f->reads)
+        made = settle(f, log, length);
+    if (made != COSTORE_DONE)
+        return fail(f, made);
+    if (log > LOG_KEPT)
+        give_back(f, f->log.at + LOG_KEPT, log - LOG_KEPT);
     return code;
 }
+
+/* ---- opening and making ---- */
 
 /* The path from the root on: the program may go to another folder while the file is open. */
 static char *from_root(const char *path) {
@@ -132,8 +394,9 @@ static char *from_root(const char *path) {
 static int32_t begin(costore_file_t *f, const char *path) {
     memset(f, 0, sizeof *f);
     f->fd = -1;
-    f->piece = malloc(PIECE);
-    if (!f->piece)
+    f->reads = !MAPS;
+    f->touched = calloc(1, sizeof *f->touched);
+    if (!f->touched)
         return COSTORE_NO_MEMORY;
     f->path = from_root(path);
     return f->path ? COSTORE_DONE : COSTORE_SYSTEM;
@@ -172,10 +435,10 @@ static int32_t ended(costore_file_t *f, int32_t code) {
 }
 
 /* Reads the superblock: the first 64 bytes of a store, with K at 8 and NAMES at 16. */
-static int32_t read_front(costore_file_t *f, uint64_t *names) {
+static int32_t read_superblock(costore_file_t *f, uint64_t *names) {
     uint8_t front[FRONT] = {0};
     uint64_t room, log;
-    int64_t had = read_at(f->fd, front, sizeof front, 0);
+    int64_t had = read_front(f->fd, front, sizeof front);
     if (had < 0)
         return COSTORE_SYSTEM;
     *names = number(front + 16);
@@ -183,20 +446,6 @@ static int32_t read_front(costore_file_t *f, uint64_t *names) {
         || costore_need(number(front + 8), *names, 0, 0, &room, &log) != COSTORE_DONE)
         return COSTORE_NO_STORE;
     return COSTORE_DONE;
-}
-
-/* Feeds the file to a new handle. */
-static int32_t feed(costore_file_t *f, uint64_t length, uint64_t room, uint64_t log) {
-    uint64_t at = 0;
-    int32_t code = costore_new(room < length ? length : room, log, &f->store.at);
-    while (code == COSTORE_DONE) {
-        int64_t n = read_at(f->fd, f->piece, PIECE, at);
-        if (n <= 0)
-            return n < 0 ? COSTORE_SYSTEM : COSTORE_DONE;
-        at += (uint64_t)n;
-        code = costore_feed(&f->store, f->piece, (size_t)n);
-    }
-    return code;
 }
 
 /* The most that an opening logs, for a file of `length` bytes with room for `names` names. It cuts the file, or it
@@ -208,27 +457,14 @@ static uint64_t most_log(uint64_t length, uint64_t names) {
     return 2 * length + COSTORE_ENTRY_HEAD * (2 * length / PIECE + 4 * names + 2) + (2 * names + 1) * save;
 }
 
-/* The log to try after one that was too small: twice as much. From the second try on it has at least an eighth of the
-   file's length, so that a small log doesn't have a large file read many times. */
-static uint64_t larger_log(uint64_t log, uint64_t length, uint64_t most) {
-    uint64_t larger = log < PIECE ? PIECE : 2 * log > length / 8 ? 2 * log : length / 8;
-    return larger < most ? larger : most;
-}
-
-/* Opens the store in the file that was taken. A flush that was interrupted is finished as a whole, which may need more
-   log than was asked for; where it was too small nothing was changed yet. */
+/* Opens the store in the file that was taken. */
 static int32_t open_store(costore_file_t *f, uint64_t length, uint64_t names, uint64_t room, uint64_t log) {
-    uint64_t most = most_log(length, names);
-    for (;;) {
-        int32_t code = feed(f, length, room, log);
-        if (code == COSTORE_DONE)
-            code = costore_open(&f->store);
-        if (code != COSTORE_DISK || log >= most)
-            return code;
-        costore_free(f->store);
-        f->store.at = NULL;
-        log = larger_log(log, length, most);
-    }
+    int32_t code = take_regions(f, room < length ? length : room, log, most_log(length, names));
+    if (code == COSTORE_DONE)
+        code = show_file(f, length);
+    if (code == COSTORE_DONE)
+        code = costore_new(f->file, f->length, f->log, &f->store.at);
+    return code == COSTORE_DONE ? costore_open(&f->store) : code;
 }
 
 int32_t costore_file_open(costore_file_t *f, const char *path, uint64_t room, uint64_t log) {
@@ -239,8 +475,8 @@ int32_t costore_file_open(costore_file_t *f, const char *path, uint64_t room, ui
     if (code == COSTORE_DONE)
         code = take(f, path, 0, &length);
     if (code == COSTORE_DONE)
-        code = read_front(f, &names);
-    /* What an earlier process wrote must be on the device before it is read. */
+        code = read_superblock(f, &names);
+    /* What an earlier process wrote must be on the device before the library reads it. */
     if (code == COSTORE_DONE && fsync(f->fd))
         code = COSTORE_SYSTEM;
     if (code == COSTORE_DONE)
@@ -293,7 +529,9 @@ static int32_t make(costore_file_t *f, const char *path, const dump_t *dump, uin
     if (code == COSTORE_DONE)
         code = take_empty(f, path);
     if (code == COSTORE_DONE)
-        code = costore_new(room, log, &f->store.at);
+        code = take_regions(f, room, log, 0);
+    if (code == COSTORE_DONE)
+        code = costore_new(f->file, 0, f->log, &f->store.at);
     if (code == COSTORE_DONE)
         code = dump ? costore_load(&f->store, dump->text, dump->n, k, names, dump->number)
                     : costore_format(&f->store, k, names);
@@ -316,9 +554,12 @@ int32_t costore_file_load(costore_file_t *f, const char *path, const uint8_t *te
 void costore_file_close(costore_file_t *f) {
     if (f->store.at)
         costore_free(f->store);
+    leave_region(&f->file);
+    leave_region(&f->marks);
+    leave_region(&f->log);
     if (f->fd >= 0)
         close(f->fd);
-    free(f->piece);
+    free(f->touched);
     free(f->path);
     memset(f, 0, sizeof *f);
     f->fd = -1;
@@ -372,4 +613,46 @@ int32_t costore_file_batch(costore_file_t *f, const uint8_t *text, size_t n, uin
         code = costore_batch(&f->store, text, n, number);
     }
     return replay(f, code);
+}
+
+/* ---- what logs nothing ---- */
+
+int32_t costore_file_back(costore_file_t *f) {
+    return f->failed ? COSTORE_BROKEN : costore_back(&f->store);
+}
+
+bool costore_file_in_hand(costore_file_t *f) {
+    return !f->failed && costore_in_hand(&f->store);
+}
+
+int32_t costore_file_size(costore_file_t *f, const uint8_t *name, size_t n, uint64_t *size) {
+    return f->failed ? COSTORE_BROKEN : costore_size(&f->store, name, n, size);
+}
+
+int32_t costore_file_position(costore_file_t *f, const uint8_t *name, size_t n, uint64_t *at, uint64_t *size) {
+    return f->failed ? COSTORE_BROKEN : costore_position(&f->store, name, n, at, size);
+}
+
+int32_t costore_file_get(costore_file_t *f, const uint8_t *name, size_t n, uint8_t *out, size_t m, uint64_t *size) {
+    return f->failed ? COSTORE_BROKEN : costore_get(&f->store, name, n, out, m, size);
+}
+
+int32_t costore_file_old(costore_file_t *f, const uint8_t *name, size_t n, uint8_t *out, size_t m, uint64_t *size) {
+    return f->failed ? COSTORE_BROKEN : costore_old(&f->store, name, n, out, m, size);
+}
+
+int32_t costore_file_list(costore_file_t *f, uint8_t *out, size_t m, uint64_t *size) {
+    return f->failed ? COSTORE_BROKEN : costore_list(&f->store, out, m, size);
+}
+
+int32_t costore_file_stat(costore_file_t *f, costore_counts *counts) {
+    return f->failed ? COSTORE_BROKEN : costore_stat(&f->store, counts);
+}
+
+int32_t costore_file_dump(costore_file_t *f, uint8_t *out, size_t m, uint64_t *size) {
+    return f->failed ? COSTORE_BROKEN : costore_dump(&f->store, out, m, size);
+}
+
+int32_t costore_file_read(costore_file_t *f, uint64_t at, uint8_t *out, size_t m) {
+    return f->failed ? COSTORE_BROKEN : costore_file(&f->store, at, out, m);
 }

@@ -1,10 +1,20 @@
-/* An engine's side of costore on a POSIX system. It opens, locks and reads a file, and replays on it the log of each
+/* An engine's side of costore on a POSIX system. It opens, locks and maps a file, and replays on it the log of each
    call of the library. Use it as it is, or as a pattern for an engine that keeps its files elsewhere. costore.h has the
-   answers, what each change does, and the words checkpoint, flush, room and log. */
+   answers, what each call does, and the words checkpoint, flush, region, room and log.
+
+   On Linux the file is mapped privately at the start of its region. So its pages are read as they are needed, and the
+   system drops them as it likes. What the library writes there takes memory of the process, until that is given back
+   after a replay. Where the system maps no files, or not this one, or where COSTORE_FILE_READS is defined, the file is
+   read into memory as a whole and stays there; all else is the same. */
 #ifndef COSTORE_FILE_H
 #define COSTORE_FILE_H
 
 #include "costore.h"
+
+/* What the library wrote is given back once it takes so many bytes. With fewer a large file is changed more slowly. */
+#ifndef COSTORE_PENDING_PAGES
+#define COSTORE_PENDING_PAGES ((uint64_t)64 << 20)
+#endif
 
 #ifdef __cplusplus
 extern "C" {
@@ -20,14 +30,18 @@ extern "C" {
    itself has all that was replayed. Close it; where it was renamed, it opens by its new name. */
 #define COSTORE_GONE (-103)
 
-/* An open file. Reads go to the library: pass &f->store to costore_get, costore_size, costore_list and so on. The
-   fields are its own, except for `before`, which a test can set: it is called before each call of a replay. */
+/* An open file. The fields are its own, except for `before`, which a test can set: it is called before each call of the
+   system in a replay, and in what makes the region show the file again. */
 typedef struct costore_file_t {
     costore store;
     int fd;
-    bool failed;
-    uint8_t *piece;
+    bool failed, reads;              /* a replay failed; the file is in memory, not mapped */
     char *path;
+    costore_region file;             /* pages of the file, and memory */
+    costore_region log;
+    uint64_t length, mapped;         /* how many bytes the file has, and how many of them are mapped */
+    costore_region marks;            /* a bit for each page of `file` that may have bytes of its own */
+    struct costore_touched *touched; /* what else is known of these */
     void (*before)(void *with);
     void *with;
 } costore_file_t;
@@ -36,19 +50,19 @@ typedef struct costore_file_t {
 
    path: a regular file. A relative path is taken from the folder that is current now, also for later looks at the name.
    room: the most bytes that the file may have; at least its present length is taken.
-   log:  the most bytes that one call may log. A file that was interrupted within a flush can need more for its opening,
-         which finishes the flush. Then larger logs are tried, up to the most that an opening can need, and the handle
-         keeps the one that sufficed. Each try reads the file again.
+   log:  the most bytes that one call may log. As many are taken as the opening of a file of this length can need, if
+         that is more. Room and log are addresses, which take memory as they are written. Only where the system refuses
+         so many addresses for the log, those that were asked for are taken.
 
    COSTORE_DONE, or else the file is closed and *f can be dropped: COSTORE_SYSTEM; COSTORE_LOCKED; COSTORE_NOT_A_FILE;
-   COSTORE_NO_STORE (at once where the first 64 bytes aren't those of a store); COSTORE_NO_MEMORY; COSTORE_GONE. Not
-   expected: COSTORE_DISK, and COSTORE_SHORT, for which another process must have made the file longer meanwhile. */
+   COSTORE_NO_STORE (at once where the first 64 bytes aren't those of a store); COSTORE_NO_MEMORY; COSTORE_GONE;
+   COSTORE_DISK (the file was interrupted within a flush, and the log was refused the addresses to finish it). */
 int32_t costore_file_open(costore_file_t *f, const char *path, uint64_t room, uint64_t log);
 
 /* Makes a store without names in a file that isn't there, or is there and empty, and opens it.
 
    k, names: as of costore_format.
-   room, log: as above; costore_need computes them.
+   room, log: the most bytes of the file, and of a log; costore_need computes them.
 
    COSTORE_DONE, or else the file is closed: COSTORE_BAD_NUMBER; COSTORE_NOT_FED (the file has bytes); COSTORE_DISK
    (room or log is too small); COSTORE_NO_MEMORY; COSTORE_SYSTEM; COSTORE_LOCKED; COSTORE_NOT_A_FILE; COSTORE_GONE.
@@ -66,10 +80,12 @@ int32_t costore_file_load(costore_file_t *f, const char *path, const uint8_t *te
 /* Closes the file. It saves nothing: what was changed since the last saved checkpoint is lost. */
 void costore_file_close(costore_file_t *f);
 
-/* The changes of the library, each with the replay of its log. At COSTORE_DONE and above the log was replayed, and at
+/* ---- changes ----
+
+   Each makes the call of the library and replays its log. At COSTORE_DONE and above the log was replayed, and at
    COSTORE_KEPT the present state is durable. Beside the library's answers: COSTORE_SYSTEM and COSTORE_GONE. After one
-   of these two, each of these calls answers COSTORE_BROKEN. As costore_put and costore_del of costore.h say, a change
-   can flush, and a flush saves checkpoints. */
+   of these two the store is closed, and all calls below answer COSTORE_BROKEN. As costore_put and costore_del of
+   costore.h say, a change can flush, and a flush saves checkpoints. */
 int32_t costore_file_put(costore_file_t *f, const uint8_t *name, size_t n, const uint8_t *object, size_t m);
 int32_t costore_file_del(costore_file_t *f, const uint8_t *name, size_t n);
 int32_t costore_file_keep(costore_file_t *f);
@@ -83,6 +99,21 @@ int32_t costore_file_step(costore_file_t *f);
 int32_t costore_file_batch(costore_file_t *f, const uint8_t *text, size_t n, uint64_t *number);
 /* Finishes a batch that an interruption has left, as costore_finish does: COSTORE_DONE where there is none. */
 int32_t costore_file_finish(costore_file_t *f, uint64_t *number);
+
+/* ---- what logs nothing ----
+
+   Each answers as the call of the library does that has its name without `_file`; costore_file_read as costore_file,
+   which copies bytes of the file from a position on. */
+int32_t costore_file_back(costore_file_t *f);
+bool costore_file_in_hand(costore_file_t *f);
+int32_t costore_file_size(costore_file_t *f, const uint8_t *name, size_t n, uint64_t *size);
+int32_t costore_file_position(costore_file_t *f, const uint8_t *name, size_t n, uint64_t *at, uint64_t *size);
+int32_t costore_file_get(costore_file_t *f, const uint8_t *name, size_t n, uint8_t *out, size_t m, uint64_t *size);
+int32_t costore_file_old(costore_file_t *f, const uint8_t *name, size_t n, uint8_t *out, size_t m, uint64_t *size);
+int32_t costore_file_list(costore_file_t *f, uint8_t *out, size_t m, uint64_t *size);
+int32_t costore_file_stat(costore_file_t *f, costore_counts *counts);
+int32_t costore_file_dump(costore_file_t *f, uint8_t *out, size_t m, uint64_t *size);
+int32_t costore_file_read(costore_file_t *f, uint64_t at, uint8_t *out, size_t m);
 
 #ifdef __cplusplus
 }

@@ -21,9 +21,9 @@ int main(int argc, char **argv) {
 
     if (costore_file_open(&f, argv[1], 1 << 22, 1 << 20) < 0)
         return 1;
-    if (costore_get(&f.store, TEXT("hello"), out, sizeof out, &size) == COSTORE_DONE)
+    if (costore_file_get(&f, TEXT("hello"), out, sizeof out, &size) == COSTORE_DONE)
         printf("hello %.*s\n", (int)size, (const char *)out);
-    printf("gone %d\n", costore_get(&f.store, TEXT("gone"), out, sizeof out, &size));
+    printf("gone %d\n", costore_file_get(&f, TEXT("gone"), out, sizeof out, &size));
     costore_file_close(&f);
     return 0;
 }

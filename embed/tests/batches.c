@@ -54,12 +54,12 @@ static void tick(void *with) {
         kill(getpid(), SIGKILL);
 }
 
-static int same(costore *store, int batch) {
+static int same(costore_file_t *f, int batch) {
     uint8_t object[MOST], out[MOST], name[16];
     uint64_t size;
     for (int i = 0; i < NAMES; i++) {
         size_t n = (size_t)sprintf((char *)name, "n%d", i);
-        int32_t code = costore_get(store, name, n, out, sizeof out, &size);
+        int32_t code = costore_file_get(f, name, n, out, sizeof out, &size);
         if (!is_there(batch, i)) {
             if (code != COSTORE_MISSING)
                 return 0;
@@ -76,12 +76,12 @@ static int same(costore *store, int batch) {
 static const char *dumps(costore_file_t *f, const char *path) {
     costore_file_t other;
     uint64_t n = 0, m = 0, number = 77;
-    if (costore_dump(&f->store, first, sizeof first, &n) != COSTORE_DONE)
+    if (costore_file_dump(f, first, sizeof first, &n) != COSTORE_DONE)
         return "dump";
     unlink(path);
     if (costore_file_load(&other, path, first, n, 5, 32, ROOM, LOG, &number) != COSTORE_DONE)
         return "load";
-    int32_t code = costore_dump(&other.store, second, sizeof second, &m);
+    int32_t code = costore_file_dump(&other, second, sizeof second, &m);
     costore_file_close(&other);
     if (code != COSTORE_DONE || m != n || memcmp(first, second, n))
         return "another dump";
@@ -125,14 +125,14 @@ static const char *try(const char *path, const char *loaded, unsigned run) {
         return "a batch was refused";
     if (costore_file_open(&f, path, ROOM, LOG) != COSTORE_DONE)
         return "the file doesn't open";
-    if (costore_size(&f.store, (const uint8_t *)COSTORE_BATCH, 6, &size) == COSTORE_DONE) {
+    if (costore_file_size(&f, (const uint8_t *)COSTORE_BATCH, 6, &size) == COSTORE_DONE) {
         pending++;
         if (costore_batch(&f.store, text, 0, &number) != COSTORE_PENDING)
             return "a batch isn't reported as pending";
     }
     if (costore_file_finish(&f, &number) < COSTORE_DONE)
         return "finish";
-    const char *wrong = same(&f.store, done) || (done + 1 < BATCHES && same(&f.store, done + 1)) ? NULL
+    const char *wrong = same(&f, done) || (done + 1 < BATCHES && same(&f, done + 1)) ? NULL
                                                                                               : "another map";
     if (!wrong)
         wrong = dumps(&f, loaded);

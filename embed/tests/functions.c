@@ -1,4 +1,5 @@
-/* Calls each function of the library at least once, and compares its answers: functions FILE. */
+/* Calls each function of costore_file.c, and by these or itself each of the library, and compares what they answer:
+   functions FILE. */
 #define _GNU_SOURCE
 #include "costore_file.h"
 
@@ -11,6 +12,9 @@
 
 static int passed, failed;
 
+/* What is lent to a handle that has no file of the system. */
+static uint8_t memory[1 << 20], noted[1 << 16];
+
 static void is(const char *what, int64_t found, int64_t wanted) {
     if (found == wanted) {
         passed++;
@@ -20,6 +24,12 @@ static void is(const char *what, int64_t found, int64_t wanted) {
     }
 }
 
+/* Makes a handle over a file of `length` bytes at the start of `memory`. */
+static int32_t lend(costore *store, size_t room, uint64_t length, size_t log) {
+    costore_region file = {memory, room}, notes = {noted, log};
+    return costore_new(file, length, notes, &store->at);
+}
+
 static void changes(costore_file_t *f) {
     uint8_t out[4096], object[3000];
     uint64_t size = 0, log = 0, length = 0, at = 0;
@@ -27,43 +37,43 @@ static void changes(costore_file_t *f) {
     memset(object, 'x', sizeof object);
     is("put", costore_file_put(f, TEXT("a"), TEXT("one")) >= 0, 1);
     is("keep", costore_file_keep(f), COSTORE_KEPT);
-    is("size", costore_size(&f->store, TEXT("a"), &size), COSTORE_DONE);
+    is("size", costore_file_size(f, TEXT("a"), &size), COSTORE_DONE);
     is("size of a", (int64_t)size, 3);
-    is("get", costore_get(&f->store, TEXT("a"), out, sizeof out, &size), COSTORE_DONE);
+    is("get", costore_file_get(f, TEXT("a"), out, sizeof out, &size), COSTORE_DONE);
     is("bytes of a", memcmp(out, "one", 3), 0);
-    is("get, too short", costore_get(&f->store, TEXT("a"), out, 2, &size), COSTORE_SHORT);
-    is("get, missing", costore_get(&f->store, TEXT("b"), out, sizeof out, &size), COSTORE_MISSING);
-    is("get, no name", costore_get(&f->store, TEXT("a b"), out, sizeof out, &size), COSTORE_BAD_NAME);
+    is("get, too short", costore_file_get(f, TEXT("a"), out, 2, &size), COSTORE_SHORT);
+    is("get, missing", costore_file_get(f, TEXT("b"), out, sizeof out, &size), COSTORE_MISSING);
+    is("get, no name", costore_file_get(f, TEXT("a b"), out, sizeof out, &size), COSTORE_BAD_NAME);
     is("del", costore_file_del(f, TEXT("a")) >= 0, 1);
     is("del, missing", costore_file_del(f, TEXT("a")), COSTORE_MISSING);
-    is("back", costore_back(&f->store), COSTORE_DONE);
-    is("old", costore_old(&f->store, TEXT("a"), out, sizeof out, &size) == COSTORE_DONE
+    is("back", costore_file_back(f), COSTORE_DONE);
+    is("old", costore_file_old(f, TEXT("a"), out, sizeof out, &size) == COSTORE_DONE
                   || size == 3, 1);
-    is("stat", costore_stat(&f->store, &counts), COSTORE_DONE);
+    is("stat", costore_file_stat(f, &counts), COSTORE_DONE);
     is("names", (int64_t)counts.names, (int64_t)counts.kept_names);
     is("begin", costore_file_begin_put(f, TEXT("big"), object, sizeof object), COSTORE_IN_HAND);
-    is("in hand", costore_in_hand(&f->store), 1);
+    is("in hand", costore_file_in_hand(f), 1);
     is("put, busy", costore_put(&f->store, TEXT("c"), TEXT("d")), COSTORE_BUSY);
-    is("get, in hand", costore_get(&f->store, TEXT("big"), out, sizeof out, &size), COSTORE_DONE);
+    is("get, in hand", costore_file_get(f, TEXT("big"), out, sizeof out, &size), COSTORE_DONE);
     is("bytes of big", memcmp(out, object, sizeof object), 0);
-    is("position, in hand", costore_position(&f->store, TEXT("big"), &at, &size), COSTORE_DONE);
+    is("position, in hand", costore_file_position(f, TEXT("big"), &at, &size), COSTORE_DONE);
     is("size, in hand", (int64_t)size, sizeof object);
-    is("file, in hand", costore_file(&f->store, at, out, sizeof object), COSTORE_DONE);
+    is("file, in hand", costore_file_read(f, at, out, sizeof object), COSTORE_DONE);
     is("is big", memcmp(out, object, sizeof object), 0);
-    is("old, busy", costore_old(&f->store, TEXT("a"), out, sizeof out, &size), COSTORE_BUSY);
-    is("stat, busy", costore_stat(&f->store, &counts), COSTORE_BUSY);
-    is("back, busy", costore_back(&f->store), COSTORE_BUSY);
-    for (int step = 0; costore_in_hand(&f->store); step++)
+    is("old, busy", costore_file_old(f, TEXT("a"), out, sizeof out, &size), COSTORE_BUSY);
+    is("stat, busy", costore_file_stat(f, &counts), COSTORE_BUSY);
+    is("back, busy", costore_file_back(f), COSTORE_BUSY);
+    for (int step = 0; costore_file_in_hand(f); step++)
         is("step", costore_file_step(f) >= COSTORE_KEPT, 1);
     is("step, idle", costore_step(&f->store), COSTORE_IDLE);
     is("begin to remove", costore_file_begin_del(f, TEXT("big")) >= 0, 1);
-    while (costore_in_hand(&f->store))
+    while (costore_file_in_hand(f))
         is("step", costore_file_step(f) >= COSTORE_KEPT, 1);
-    is("list", costore_list(&f->store, out, sizeof out, &size), COSTORE_DONE);
-    is("list, just fits", costore_list(&f->store, out, size, &size), COSTORE_DONE);
+    is("list", costore_file_list(f, out, sizeof out, &size), COSTORE_DONE);
+    is("list, just fits", costore_file_list(f, out, size, &size), COSTORE_DONE);
     is("lengths", costore_lengths(&f->store, &log, &length), COSTORE_DONE);
     is("log, too long", costore_log(&f->store, log, out, 1), COSTORE_SHORT);
-    is("file", costore_file(&f->store, 0, out, 8), COSTORE_DONE);
+    is("file", costore_file_read(f, 0, out, 8), COSTORE_DONE);
 }
 
 /* The texts of the log, the list and the file, and the numbers of what there is. */
@@ -73,31 +83,31 @@ static void texts(costore_file_t *f) {
     costore_counts counts;
     is("put of a", costore_file_put(f, TEXT("a"), TEXT("one")) >= COSTORE_DONE, 1);
     is("put of b", costore_file_put(f, TEXT("b"), TEXT("four")) >= COSTORE_DONE, 1);
-    is("list", costore_list(&f->store, out, sizeof out, &size), COSTORE_DONE);
+    is("list", costore_file_list(f, out, sizeof out, &size), COSTORE_DONE);
     is("size of the list", (int64_t)size, 8);
     is("text of the list", memcmp(out, "a 3\nb 4\n", 8), 0);
-    is("list, just fits", costore_list(&f->store, out, 8, &size), COSTORE_DONE);
-    is("list, too short", costore_list(&f->store, out, 7, &size), COSTORE_SHORT);
-    is("get, just fits", costore_get(&f->store, TEXT("b"), out, 4, &size), COSTORE_DONE);
+    is("list, just fits", costore_file_list(f, out, 8, &size), COSTORE_DONE);
+    is("list, too short", costore_file_list(f, out, 7, &size), COSTORE_SHORT);
+    is("get, just fits", costore_file_get(f, TEXT("b"), out, 4, &size), COSTORE_DONE);
     is("keep", costore_file_keep(f), COSTORE_KEPT);
-    is("stat", costore_stat(&f->store, &counts), COSTORE_DONE);
+    is("stat", costore_file_stat(f, &counts), COSTORE_DONE);
     is("names", (int64_t)counts.names, 2);
     is("bytes", (int64_t)counts.bytes, 7);
     is("kept names", (int64_t)counts.kept_names, 2);
     is("kept bytes", (int64_t)counts.kept_bytes, 7);
-    is("old", costore_old(&f->store, TEXT("b"), out, sizeof out, &size), COSTORE_DONE);
+    is("old", costore_file_old(f, TEXT("b"), out, sizeof out, &size), COSTORE_DONE);
     is("size of old", (int64_t)size, 4);
     is("bytes of old", memcmp(out, "four", 4), 0);
-    is("old, too short", costore_old(&f->store, TEXT("b"), out, 3, &size), COSTORE_SHORT);
+    is("old, too short", costore_file_old(f, TEXT("b"), out, 3, &size), COSTORE_SHORT);
     is("lengths", costore_lengths(&f->store, &log, &length), COSTORE_DONE);
     is("last entry", costore_log(&f->store, log - COSTORE_ENTRY_HEAD, out, COSTORE_ENTRY_HEAD), COSTORE_DONE);
     is("its kind", out[0], 3);
-    is("file", costore_file(&f->store, 0, out, 8), COSTORE_DONE);
+    is("file", costore_file_read(f, 0, out, 8), COSTORE_DONE);
     is("first bytes", memcmp(out, "COSTORE1", 8), 0);
     is("byte of the file", pread(f->fd, &byte, 1, (off_t)length - 1), 1);
-    is("last byte", costore_file(&f->store, length - 1, out, 1), COSTORE_DONE);
+    is("last byte", costore_file_read(f, length - 1, out, 1), COSTORE_DONE);
     is("is that of the file", out[0], byte);
-    is("file, too long", costore_file(&f->store, length, out, 1), COSTORE_SHORT);
+    is("file, too long", costore_file_read(f, length, out, 1), COSTORE_SHORT);
 }
 
 /* An object is in the file in memory, and in the one on the device, where its position says. */
@@ -105,17 +115,17 @@ static void position(costore_file_t *f, const char *name, const char *object) {
     uint8_t out[64];
     uint64_t at = 7, size = 7, log = 0, length = 0;
     size_t n = strlen(object);
-    is("position", costore_position(&f->store, TEXT(name), &at, &size), COSTORE_DONE);
+    is("position", costore_file_position(f, TEXT(name), &at, &size), COSTORE_DONE);
     is("its size", (int64_t)size, (int64_t)n);
     is("lengths", costore_lengths(&f->store, &log, &length), COSTORE_DONE);
     is("within the file", at + size <= length, 1);
-    is("file there", costore_file(&f->store, at, out, n), COSTORE_DONE);
+    is("file there", costore_file_read(f, at, out, n), COSTORE_DONE);
     is("is the object", memcmp(out, object, n), 0);
     is("device there", pread(f->fd, out, n, (off_t)at), (int64_t)n);
     is("is the object", memcmp(out, object, n), 0);
     at = size = 7;
-    is("position, missing", costore_position(&f->store, TEXT("none"), &at, &size), COSTORE_MISSING);
-    is("position, no name", costore_position(&f->store, TEXT("a b"), &at, &size), COSTORE_BAD_NAME);
+    is("position, missing", costore_file_position(f, TEXT("none"), &at, &size), COSTORE_MISSING);
+    is("position, no name", costore_file_position(f, TEXT("a b"), &at, &size), COSTORE_BAD_NAME);
     is("nothing is written", at == 7 && size == 7, 1);
 }
 
@@ -131,12 +141,12 @@ static void back(costore_file_t *f) {
         code = costore_file_put(f, name, n, (const uint8_t *)"", 0);
     }
     is("quiet put", code, COSTORE_DONE);
-    is("stat", costore_stat(&f->store, &counts), COSTORE_DONE);
+    is("stat", costore_file_stat(f, &counts), COSTORE_DONE);
     is("one more name", (int64_t)counts.names, (int64_t)counts.kept_names + 1);
-    is("old", costore_old(&f->store, name, n, out, sizeof out, &size), COSTORE_MISSING);
-    is("size", costore_size(&f->store, name, n, &size), COSTORE_DONE);
-    is("back", costore_back(&f->store), COSTORE_DONE);
-    is("size, gone", costore_size(&f->store, name, n, &size), COSTORE_MISSING);
+    is("old", costore_file_old(f, name, n, out, sizeof out, &size), COSTORE_MISSING);
+    is("size", costore_file_size(f, name, n, &size), COSTORE_DONE);
+    is("back", costore_file_back(f), COSTORE_DONE);
+    is("size, gone", costore_file_size(f, name, n, &size), COSTORE_MISSING);
 }
 
 /* Batches, and the refusals of one. */
@@ -181,20 +191,20 @@ static void streams(const char *path) {
     size_t rest = strlen(wanted);
     is("format for a dump", costore_file_format(&f, path, 9, 64, 1 << 22, 1 << 20), COSTORE_DONE);
     is("put", costore_file_batch(&f, TEXT(wanted), &number), COSTORE_KEPT);
-    is("dump", costore_dump(&f.store, out, sizeof out, &size), COSTORE_DONE);
+    is("dump", costore_file_dump(&f, out, sizeof out, &size), COSTORE_DONE);
     is("its first line", memcmp(out, "dump 2 0 3 0 ", 13), 0);
     is("its objects", memcmp(out + size - rest, wanted, rest), 0);
-    is("dump, too short", costore_dump(&f.store, other, size - 1, &again), COSTORE_SHORT);
+    is("dump, too short", costore_file_dump(&f, other, size - 1, &again), COSTORE_SHORT);
     costore_file_close(&f);
     is("unlink", unlink(path), 0);
     is("load", costore_file_load(&f, path, out, size, 5, 16, 1 << 22, 1 << 20, &number), COSTORE_DONE);
-    is("dump again", costore_dump(&f.store, other, sizeof other, &again), COSTORE_DONE);
+    is("dump again", costore_file_dump(&f, other, sizeof other, &again), COSTORE_DONE);
     is("its size", (int64_t)again, (int64_t)size);
     is("the same", memcmp(out, other, size), 0);
     costore_file_close(&f);
     is("load, not empty", costore_file_load(&f, path, out, size, 5, 16, 1 << 22, 1 << 20, &number), COSTORE_NOT_FED);
     is("unlink", unlink(path), 0);
-    is("new", costore_new(1 << 20, 1 << 16, &bare.at), COSTORE_DONE);
+    is("new", lend(&bare, sizeof memory, 0, sizeof noted), COSTORE_DONE);
     is("load, bad number", costore_load(&bare, out, size, 5, 15, &number), COSTORE_BAD_NUMBER);
     is("load, cut", costore_load(&bare, out, size - 1, 5, 16, &number), COSTORE_LINE);
     is("second object", (int64_t)number, 2);
@@ -202,58 +212,90 @@ static void streams(const char *path) {
     is("dump, closed", costore_dump(&bare, out, size, &again), COSTORE_CLOSED);
     is("batch, closed", costore_batch(&bare, out, 0, &number), COSTORE_CLOSED);
     costore_free(bare);
-    is("new", costore_new(1 << 20, 1 << 16, &bare.at), COSTORE_DONE);
+    is("new", lend(&bare, sizeof memory, 0, sizeof noted), COSTORE_DONE);
     memcpy(other, "dump 17", 7);
     memcpy(other + 7, out + 6, size - 6);
     is("load, more names", costore_load(&bare, other, size + 1, 5, 16, &number), COSTORE_MORE_NAMES);
     is("how many", (int64_t)number, 17);
     costore_free(bare);
-    is("new", costore_new(1 << 20, 1000, &bare.at), COSTORE_DONE);
+    is("new", lend(&bare, sizeof memory, 0, 1000), COSTORE_DONE);
     is("load, log too small", costore_load(&bare, out, size, 5, 16, &number), COSTORE_DISK);
     costore_free(bare);
 }
 
-/* A log that is too small: nothing is replayed, the store is broken, and the file opens as it was. */
+/* A file with too small a room, or a log that is too small: nothing is replayed, and the store is broken. */
 static void small(const char *path) {
+    static const uint8_t object[2000];
     costore_file_t f;
-    uint8_t object[2000] = {0}, out[16];
-    uint64_t size, at;
-    is("open, small log", costore_file_open(&f, path, 1 << 22, 1000), COSTORE_DONE);
-    is("put, log too small", costore_file_put(&f, TEXT("z"), object, sizeof object), COSTORE_DISK);
+    costore bare = {0};
+    uint8_t out[16];
+    uint64_t size = 0, at;
+    is("open, small room", costore_file_open(&f, path, 0, 1 << 20), COSTORE_DONE);
+    is("put, room too small", costore_file_put(&f, TEXT("z"), object, sizeof object), COSTORE_DISK);
     is("put, broken", costore_file_put(&f, TEXT("z"), TEXT("z")), COSTORE_BROKEN);
-    is("get, broken", costore_get(&f.store, TEXT("a"), out, sizeof out, &size), COSTORE_BROKEN);
-    is("back, broken", costore_back(&f.store), COSTORE_BROKEN);
-    is("position, broken", costore_position(&f.store, TEXT("a"), &at, &size), COSTORE_BROKEN);
+    is("get, broken", costore_file_get(&f, TEXT("a"), out, sizeof out, &size), COSTORE_BROKEN);
+    is("back, broken", costore_file_back(&f), COSTORE_BROKEN);
+    is("position, broken", costore_file_position(&f, TEXT("a"), &at, &size), COSTORE_BROKEN);
     is("close", costore_close(&f.store), COSTORE_DONE);
     is("close, closed", costore_close(&f.store), COSTORE_CLOSED);
     is("position, closed", costore_position(&f.store, TEXT("a"), &at, &size), COSTORE_CLOSED);
     is("in hand, closed", costore_in_hand(&f.store), 0);
     is("put, closed", costore_put(&f.store, TEXT("z"), TEXT("z")), COSTORE_CLOSED);
-    is("feed, closed", costore_feed(&f.store, out, 1), COSTORE_NOT_FED);
+    is("format, closed", costore_format(&f.store, 9, 64), COSTORE_NOT_FED);
     is("open, closed", costore_open(&f.store), COSTORE_NOT_FED);
+    ssize_t n = pread(f.fd, memory, sizeof memory, 0);
     costore_file_close(&f);
+    is("new, small log", lend(&bare, sizeof memory, (uint64_t)n, 1000), COSTORE_DONE);
+    is("open, small log", costore_open(&bare), COSTORE_DONE);
+    is("put, log too small", costore_put(&bare, TEXT("z"), object, sizeof object), COSTORE_DISK);
+    is("get, broken", costore_get(&bare, TEXT("a"), out, sizeof out, &size), COSTORE_BROKEN);
+    costore_free(bare);
+}
+
+/* Handles over regions that have no store, and stores that are made in memory which isn't zeros. */
+static void regions(void) {
+    costore bare = {0};
+    uint8_t out[16];
+    uint64_t size = 0, number = 77, log = 0, length = 0;
+    memset(memory, 'm', sizeof memory);
+    memset(noted, 'n', sizeof noted);
+    is("new, longer than its region", lend(&bare, 8, 9, 8), COSTORE_BAD_NUMBER);
+    is("nothing is written", bare.at == NULL, 1);
+    is("new", lend(&bare, 8, 0, 8), COSTORE_DONE);
+    is("format, bad number", costore_format(&bare, 1, 1024), COSTORE_BAD_NUMBER);
+    is("format, small room", costore_format(&bare, 9, 1024), COSTORE_DISK);
+    is("open, closed", costore_open(&bare), COSTORE_NOT_FED);
+    costore_free(bare);
+    is("new, just fits", lend(&bare, 8, 8, 8), COSTORE_DONE);
+    is("nothing is touched", memory[0] == 'm' && memory[7] == 'm' && noted[0] == 'n', 1);
+    is("put, no store yet", costore_put(&bare, TEXT("a"), TEXT("b")), COSTORE_CLOSED);
+    is("format, not empty", costore_format(&bare, 9, 1024), COSTORE_NOT_FED);
+    is("load, not empty", costore_load(&bare, TEXT(""), 9, 1024, &number), COSTORE_NOT_FED);
+    is("open, no store", costore_open(&bare), COSTORE_NO_STORE);
+    costore_free(bare);
+    is("new", lend(&bare, sizeof memory, 0, sizeof noted), COSTORE_DONE);
+    is("format", costore_format(&bare, 9, 64), COSTORE_DONE);
+    is("open, open", costore_open(&bare), COSTORE_NOT_FED);
+    is("put", costore_put(&bare, TEXT("a"), TEXT("one")), COSTORE_KEPT);
+    is("get", costore_get(&bare, TEXT("a"), out, sizeof out, &size), COSTORE_DONE);
+    is("bytes of a", size == 3 && memcmp(out, "one", 3) == 0, 1);
+    is("lengths", costore_lengths(&bare, &log, &length), COSTORE_DONE);
+    is("log, too long", costore_log(&bare, log, out, 1), COSTORE_SHORT);
+    is("log", costore_log(&bare, log - 16, out, 16), COSTORE_DONE);
+    is("the log is in its region", memcmp(out, noted + log - 16, 16), 0);
+    is("close", costore_close(&bare), COSTORE_DONE);
+    costore_free(bare);
 }
 
 int main(int argc, char **argv) {
     costore_file_t f, other;
-    costore bare = {0};
     uint64_t room, log;
     if (argc != 2)
         return 2;
     is("need", costore_need(9, 64, 1000, 100, &room, &log), COSTORE_DONE);
     is("need of log", (int64_t)log, 100 + 17 + 8490 + 80 * 64 + 17 * 9);
     is("need, bad number", costore_need(1, 64, 1000, 100, &room, &log), COSTORE_BAD_NUMBER);
-    is("new", costore_new(8, 8, &bare.at), COSTORE_DONE);
-    is("format, bad number", costore_format(&bare, 1, 1024), COSTORE_BAD_NUMBER);
-    is("format, small room", costore_format(&bare, 9, 1024), COSTORE_DISK);
-    is("feed, closed", costore_feed(&bare, TEXT("1")), COSTORE_NOT_FED);
-    costore_free(bare);
-    is("new", costore_new(8, 8, &bare.at), COSTORE_DONE);
-    is("feed, too long", costore_feed(&bare, TEXT("123456789")), COSTORE_SHORT);
-    is("feed", costore_feed(&bare, TEXT("12345678")), COSTORE_DONE);
-    is("format, not empty", costore_format(&bare, 9, 1024), COSTORE_NOT_FED);
-    is("open, no store", costore_open(&bare), COSTORE_NO_STORE);
-    costore_free(bare);
+    regions();
     is("format", costore_file_format(&f, argv[1], 9, 64, 1 << 22, 1 << 20), COSTORE_DONE);
     texts(&f);
     position(&f, "a", "one");

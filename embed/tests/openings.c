@@ -1,6 +1,7 @@
 /* Opens and makes files that aren't as they should be, that lose their name, or whose calls of the system fail:
-   openings FOLDER. The calls that costore_file.c makes on its file go through the functions below, which count them and
-   fail the one that is asked for. At the end FOLDER/openings is a store. */
+   openings FOLDER. The calls that costore_file.c makes on its file and its memory go through the functions below, which
+   count them and fail the one that is asked for. Pages are given back after each log. At the end FOLDER/openings is a
+   store. */
 #define _GNU_SOURCE
 #include <errno.h>
 #include <fcntl.h>
@@ -9,38 +10,72 @@
 #include <stdio.h>
 #include <stdlib.h>
 #include <string.h>
+#include <sys/mman.h>
 #include <sys/stat.h>
 #include <unistd.h>
 
-/* How many calls were made, which of them fails (none at 0), and how many bytes were read. */
-static uint64_t calls, fails, had;
+/* How many calls were made, which of them fails (none at 0) and with what, and whether that one may fail: if what pages
+   have isn't given back, nothing is wrong. */
+static uint64_t calls, fails;
+static int cause = EIO;
+static bool may_fail;
+
+/* How many bytes were read, and how many one call reads or writes at most. */
+static uint64_t had;
+static size_t piece = SIZE_MAX;
 
 static bool falls(void) {
     if (++calls != fails)
         return false;
-    errno = EIO;
+    errno = cause;
     return true;
 }
 
 static ssize_t try_pread(int fd, void *out, size_t n, off_t at) {
-    ssize_t done = falls() ? -1 : pread(fd, out, n, at);
+    ssize_t done = falls() ? -1 : pread(fd, out, n < piece ? n : piece, at);
     had += done > 0 ? (uint64_t)done : 0;
     return done;
 }
 
 static ssize_t try_pwrite(int fd, const void *bytes, size_t n, off_t at) {
-    return falls() ? -1 : pwrite(fd, bytes, n, at);
+    return falls() ? -1 : pwrite(fd, bytes, n < piece ? n : piece, at);
 }
 
 static int try_ftruncate(int fd, off_t n) { return falls() ? -1 : ftruncate(fd, n); }
 static int try_fsync(int fd) { return falls() ? -1 : fsync(fd); }
 static int try_fdatasync(int fd) { return falls() ? -1 : fdatasync(fd); }
 
+#ifndef COSTORE_FILE_READS
+/* How often addresses were reserved, which of the first times that is refused (a bit for each), and with what the
+   system doesn't map the file (0 if it does). */
+static unsigned reserves, refused;
+static int unmapped;
+
+static void *try_mmap(void *at, size_t n, int prot, int how, int fd, off_t from) {
+    if (how & MAP_FIXED && falls())
+        return MAP_FAILED;
+    errno = fd >= 0 ? unmapped : 0;
+    if (!(how & MAP_FIXED) && reserves < 8 && refused >> reserves++ & 1)
+        errno = ENOMEM;
+    return errno ? MAP_FAILED : mmap(at, n, prot, how, fd, from);
+}
+
+static int try_madvise(void *at, size_t n, int how) {
+    if (!falls())
+        return madvise(at, n, how);
+    may_fail = true;
+    return -1;
+}
+#endif
+
 #define pread try_pread
 #define pwrite try_pwrite
 #define ftruncate try_ftruncate
 #define fsync try_fsync
 #define fdatasync try_fdatasync
+#define mmap try_mmap
+#define madvise try_madvise
+#define COSTORE_PENDING_PAGES 1
 #include "costore_file.c"
 
 #define TEXT(text) (const uint8_t *)(text), strlen(text)
@@ -158,21 +193,23 @@ static void refusals(void) {
 
 /* ---- files that were interrupted within a flush ---- */
 
-static uint8_t file_now[ROOM], moving[ROOM];
+static uint8_t file_now[ROOM], moving[ROOM], lent[ROOM], noted[100];
 static size_t length;
 
 /* Reads a file, and tells whether its opening needs more than 100 bytes of log: then it finishes a flush. */
 static bool is_moving(const char *path) {
     costore bare = {0};
+    costore_region region = {lent, sizeof lent}, notes = {noted, sizeof noted};
     FILE *file = fopen(path, "r");
-    int32_t code = COSTORE_SHORT;
     length = file ? fread(file_now, 1, sizeof file_now, file) : 0;
     if (file)
         fclose(file);
-    if (costore_new(ROOM, 100, &bare.at) == COSTORE_DONE && costore_feed(&bare, file_now, length) == COSTORE_DONE)
+    memcpy(lent, file_now, length);
+    int32_t code = costore_new(region, length, notes, &bare.at);
+    if (code == COSTORE_DONE) {
         code = costore_open(&bare);
-    if (bare.at)
         costore_free(bare);
+    }
     return code == COSTORE_DISK;
 }
 
@@ -192,7 +229,7 @@ static void make_moving(void) {
     is("keep", "moving", costore_file_keep(&f), COSTORE_KEPT);
     for (int i = 0; i < OBJECTS && !found && code >= COSTORE_DONE; i++) {
         code = costore_file_begin_put(&f, name, name_of(i, name), object, sizeof object);
-        while (code >= COSTORE_DONE && costore_in_hand(&f.store) && !(found = is_moving("moving")))
+        while (code >= COSTORE_DONE && costore_file_in_hand(&f) && !(found = is_moving("moving")))
             code = costore_file_step(&f);
     }
     is("a flush that is interrupted", "moving", found, 1);
@@ -206,7 +243,7 @@ static bool has_all(costore_file_t *f) {
     uint64_t size = 0;
     int right = 0;
     for (int i = 0; i < OBJECTS; i++)
-        right += costore_get(&f->store, name, name_of(i, name), out, sizeof out, &size) == COSTORE_DONE
+        right += costore_file_get(f, name, name_of(i, name), out, sizeof out, &size) == COSTORE_DONE
                  && (size == 1000 || size == 2000) && out[0] == 'o' && out[size - 1] == 'o';
     return right == OBJECTS;
 }
@@ -226,7 +263,7 @@ static void interrupted(void) {
         is("open", which, code, COSTORE_DONE);
         if (code != COSTORE_DONE)
             continue;
-        is("open: bytes read", which, had <= 8 * n, 1);
+        is("open: bytes read", which, (int64_t)had, FRONT + (f.reads ? (int64_t)n : 0));
         is("objects", which, has_all(&f), 1);
         is("lengths", which, costore_lengths(&f.store, &log, &now), COSTORE_DONE);
         is("bound of the log", which, log > 100 && log <= most_log(n, NAMES), 1);
@@ -260,6 +297,9 @@ static int32_t do_change(costore_file_t *f) {
     fails = 0;
     if (do_open(f) != COSTORE_DONE)
         return COSTORE_DONE;
+    costore_file_close(f);
+    if (costore_file_open(f, "fails", ROOM, LOG) != COSTORE_DONE)
+        return COSTORE_DONE;
     calls = 0, fails = fails_then;
     int32_t code = costore_file_put(f, TEXT("new"), object, sizeof object);
     return code < COSTORE_DONE ? code : costore_file_keep(f);
@@ -271,13 +311,23 @@ static const struct {
     bool opens;
 } FAILING[] = {{"format", do_format, false}, {"open", do_open, true}, {"put and keep", do_change, true}};
 
+static const int CAUSES[] = {EIO, ENOSPC};
+
+/* No call uses a file of which a call has failed. */
+static bool is_broken(costore_file_t *f) {
+    uint64_t size = 7;
+    return costore_file_keep(f) == COSTORE_BROKEN && costore_file_size(f, TEXT("new"), &size) == COSTORE_BROKEN
+           && costore_size(&f->store, TEXT("new"), &size) == COSTORE_CLOSED && size == 7;
+}
+
 /* The call that fails is answered, and the file is used no more. Closed, it opens, unless it wasn't made yet. */
 static bool fails_at(size_t i, uint64_t n) {
     costore_file_t f;
-    calls = 0, fails = n;
-    bool right = FAILING[i].does(&f) == COSTORE_SYSTEM && errno == EIO;
+    may_fail = false, calls = 0, fails = n;
+    int32_t code = FAILING[i].does(&f);
+    bool right = may_fail ? code >= COSTORE_DONE : code == COSTORE_SYSTEM && errno == cause;
     fails = 0;
-    right = right && (f.fd < 0 || costore_file_keep(&f) == COSTORE_BROKEN);
+    right = right && (may_fail || f.fd < 0 || is_broken(&f));
     costore_file_close(&f);
     costore_file_close(&f);
     if (right && FAILING[i].opens) {
@@ -295,12 +345,85 @@ static void failures(void) {
         is("no failure", FAILING[i].name, FAILING[i].does(&f) >= COSTORE_DONE, 1);
         costore_file_close(&f);
         all = calls;
-        for (uint64_t n = 1; n <= all; n++)
-            wrong += !fails_at(i, n);
+        for (size_t c = 0; c < COUNT(CAUSES); c++) {
+            cause = CAUSES[c];
+            for (uint64_t n = 1; n <= all; n++)
+                wrong += !fails_at(i, n);
+        }
         is("calls", FAILING[i].name, all > 5, 1);
         is("failures", FAILING[i].name, (int64_t)wrong, 0);
     }
 }
+
+/* Each call reads or writes a part of what it is asked for. */
+static void pieces(void) {
+    costore_file_t f;
+    for (size_t i = 0; i < COUNT(FAILING); i++) {
+        piece = 1000;
+        is("in pieces", FAILING[i].name, FAILING[i].does(&f) >= COSTORE_DONE, 1);
+        costore_file_close(&f);
+        piece = SIZE_MAX;
+        int32_t code = costore_file_open(&f, "fails", ROOM, LOG);
+        is("open", FAILING[i].name, code == COSTORE_DONE && (!FAILING[i].opens || has_all(&f)), 1);
+        costore_file_close(&f);
+    }
+}
+
+/* ---- memory and maps that the system refuses ---- */
+
+#if MAPS
+static const struct {
+    const char *name;
+    unsigned refused;
+    uint64_t log;
+    int unmapped;
+    int32_t opened, made;
+} REFUSING[] = {
+    {"nothing", 0, 0, 0, COSTORE_DONE, COSTORE_DISK},
+    {"the file's addresses", 1, LOG, 0, COSTORE_NO_MEMORY, COSTORE_NO_MEMORY},
+    {"those of the marks", 2, LOG, 0, COSTORE_NO_MEMORY, COSTORE_NO_MEMORY},
+    {"those of a larger log", 4, LOG, 0, COSTORE_DONE, COSTORE_NO_MEMORY},
+    {"those of a log that is needed", 4, 0, 0, COSTORE_DISK, COSTORE_NO_MEMORY},
+    {"those of any log", 12, LOG, 0, COSTORE_NO_MEMORY, COSTORE_NO_MEMORY},
+    {"a map, ENODEV", 0, LOG, ENODEV, COSTORE_DONE, COSTORE_DONE},
+    {"a map, EINVAL", 0, LOG, EINVAL, COSTORE_DONE, COSTORE_DONE},
+    {"a map, EACCES", 0, LOG, EACCES, COSTORE_DONE, COSTORE_DONE},
+    {"a map, ENOMEM", 0, LOG, ENOMEM, COSTORE_SYSTEM, COSTORE_SYSTEM},
+};
+
+static void refuse(size_t i) {
+    reserves = 0, refused = REFUSING[i].refused, unmapped = REFUSING[i].unmapped;
+}
+
+/* What is refused is answered, or the file is read. */
+static void refusing(void) {
+    costore_file_t f;
+    for (size_t i = 0; i < COUNT(REFUSING); i++) {
+        const char *name = REFUSING[i].name;
+        write_file("refusing", moving, length, length);
+        refuse(i);
+        int32_t code = costore_file_open(&f, "refusing", ROOM, REFUSING[i].log);
+        is("open", name, code, REFUSING[i].opened);
+        if (code == COSTORE_DONE) {
+            is("objects", name, has_all(&f), 1);
+            is("put", name, costore_file_put(&f, TEXT("new"), lent, 3000) >= COSTORE_DONE, 1);
+            is("keep", name, costore_file_keep(&f), COSTORE_KEPT);
+            is("read whole", name, f.reads, REFUSING[i].unmapped != 0);
+        }
+        costore_file_close(&f);
+        unlink("refusing");
+        refuse(i);
+        is("format", name, costore_file_format(&f, "refusing", 9, NAMES, ROOM, REFUSING[i].log), REFUSING[i].made);
+        costore_file_close(&f);
+        refused = 0, unmapped = 0;
+        code = costore_file_open(&f, "refusing", ROOM, LOG);
+        is("open what was made", name, code == COSTORE_DONE, size_of("refusing") > 0);
+        costore_file_close(&f);
+    }
+}
+#else
+static void refusing(void) {}
+#endif
 
 /* ---- files whose name leads elsewhere ---- */
 
@@ -338,7 +461,7 @@ static void names(void) {
         is("back", name, chdir(here) || chdir(name), 0);
         if (NAMED[i].after) {
             is("open after", name, costore_file_open(&f, NAMED[i].after, ROOM, LOG), COSTORE_DONE);
-            is("size", name, costore_size(&f.store, TEXT("a"), &size), COSTORE_DONE);
+            is("size", name, costore_file_size(&f, TEXT("a"), &size), COSTORE_DONE);
             costore_file_close(&f);
         }
         is("folder above", name, chdir(".."), 0);
@@ -362,6 +485,8 @@ int main(int argc, char **argv) {
     make_moving();
     interrupted();
     failures();
+    pieces();
+    refusing();
     names();
     is("rename", "openings", rename("openings", "../openings"), 0);
     is("files that stay open", "all", next_number(), number_before);

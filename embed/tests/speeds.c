@@ -63,7 +63,7 @@ static void by_library(const char *path) {
     began = now();
     for (int i = 0; i < gets_; i++) {
         size_t n = draw();
-        int32_t code = costore_get(&f.store, (uint8_t *)name, n, out, (size_t)size, &found);
+        int32_t code = costore_file_get(&f, (uint8_t *)name, n, out, (size_t)size, &found);
         if (code < 0 && code != COSTORE_MISSING)
             wrong("get");
     }

@@ -24,7 +24,7 @@ static void change_drawn(costore_file_t *f) {
         if (code < COSTORE_DONE && code != COSTORE_MISSING && code != COSTORE_FULL)
             is("drawn change", code, COSTORE_DONE);
     }
-    is("list of all", costore_list(&f->store, list, sizeof list, &size), COSTORE_DONE);
+    is("list of all", costore_file_list(f, list, sizeof list, &size), COSTORE_DONE);
 }
 
 static void *run(void *with) {
