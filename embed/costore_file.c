@@ -457,9 +457,21 @@ static uint64_t most_log(uint64_t length, uint64_t names) {
     return 2 * length + COSTORE_ENTRY_HEAD * (2 * length / PIECE + 4 * names + 2) + (2 * names + 1) * save;
 }
 
-/* Opens the store in the file that was taken. */
+/* Half of the machine's memory. What is logged is in the file's region, too. */
+static uint64_t half_of_memory(void) {
+#ifdef _SC_PHYS_PAGES
+    long pages = sysconf(_SC_PHYS_PAGES);
+    return pages > 0 ? (uint64_t)pages * page_size() / 2 : UINT64_MAX;
+#else
+    return UINT64_MAX;
+#endif
+}
+
+/* Opens the store in the file that was taken. Its log has room to finish each flush for which the machine has memory;
+   the library refuses one that needs more. */
 static int32_t open_store(costore_file_t *f, uint64_t length, uint64_t names, uint64_t room, uint64_t log) {
-    int32_t code = take_regions(f, room < length ? length : room, log, most_log(length, names));
+    uint64_t most = most_log(length, names), half = half_of_memory();
+    int32_t code = take_regions(f, room < length ? length : room, log, most < half ? most : half);
     if (code == COSTORE_DONE)
         code = show_file(f, length);
     if (code == COSTORE_DONE)
@@ -563,6 +575,7 @@ void costore_file_close(costore_file_t *f) {
     free(f->path);
     memset(f, 0, sizeof *f);
     f->fd = -1;
+    f->failed = true;
 }
 
 int32_t costore_file_put(costore_file_t *f, const uint8_t *name, size_t n, const uint8_t *object, size_t m) {

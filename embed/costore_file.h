@@ -35,7 +35,7 @@ extern "C" {
 typedef struct costore_file_t {
     costore store;
     int fd;
-    bool failed, reads;              /* a replay failed; the file is in memory, not mapped */
+    bool failed, reads;              /* it's used no more; it's in memory, not mapped */
     char *path;
     costore_region file;             /* pages of the file, and memory */
     costore_region log;
@@ -50,13 +50,15 @@ typedef struct costore_file_t {
 
    path: a regular file. A relative path is taken from the folder that is current now, also for later looks at the name.
    room: the most bytes that the file may have; at least its present length is taken.
-   log:  the most bytes that one call may log. As many are taken as the opening of a file of this length can need, if
-         that is more. Room and log are addresses, which take memory as they are written. Only where the system refuses
-         so many addresses for the log, those that were asked for are taken.
+   log:  the most bytes that one call may log. The opening of a file that was interrupted within a flush finishes the
+         flush, and may log far more. So as many are taken as that can need, but no more than half of the machine's
+         memory, if that is more than was asked for and the system doesn't refuse it.
+
+   Room and log are addresses, which take memory as they are written.
 
    COSTORE_DONE, or else the file is closed and *f can be dropped: COSTORE_SYSTEM; COSTORE_LOCKED; COSTORE_NOT_A_FILE;
    COSTORE_NO_STORE (at once where the first 64 bytes aren't those of a store); COSTORE_NO_MEMORY; COSTORE_GONE;
-   COSTORE_DISK (the file was interrupted within a flush, and the log was refused the addresses to finish it). */
+   COSTORE_DISK (the log is too small to finish the flush: nothing was changed; ask for a larger one). */
 int32_t costore_file_open(costore_file_t *f, const char *path, uint64_t room, uint64_t log);
 
 /* Makes a store without names in a file that isn't there, or is there and empty, and opens it.
@@ -77,7 +79,8 @@ int32_t costore_file_format(costore_file_t *f, const char *path, uint64_t k, uin
 int32_t costore_file_load(costore_file_t *f, const char *path, const uint8_t *text, size_t n, uint64_t k,
                           uint64_t names, uint64_t room, uint64_t log, uint64_t *number);
 
-/* Closes the file. It saves nothing: what was changed since the last saved checkpoint is lost. */
+/* Closes the file. It saves nothing: what was changed since the last saved checkpoint is lost. After it, and after an
+   opening that failed, all calls below answer COSTORE_BROKEN. */
 void costore_file_close(costore_file_t *f);
 
 /* ---- changes ----

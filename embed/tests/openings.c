@@ -330,6 +330,7 @@ static bool fails_at(size_t i, uint64_t n) {
     right = right && (may_fail || f.fd < 0 || is_broken(&f));
     costore_file_close(&f);
     costore_file_close(&f);
+    right = right && costore_file_keep(&f) == COSTORE_BROKEN && !costore_file_in_hand(&f);
     if (right && FAILING[i].opens) {
         right = costore_file_open(&f, "fails", 0, LOG) == COSTORE_DONE && has_all(&f);
         costore_file_close(&f);
