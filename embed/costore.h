@@ -66,7 +66,7 @@ enum {
     COSTORE_IDLE = -14,      /* no flush is in hand */
     COSTORE_NO_STORE = -15,  /* the file is no store, or a damaged one */
     COSTORE_BAD_NUMBER = -16,/* a number is out of its range */
-    COSTORE_NOT_FED = -17,   /* the handle has a store already or is closed, or its file isn't empty */
+    COSTORE_NOT_NEW = -17,   /* the handle has a store already or is closed, or its file isn't empty */
     COSTORE_LINE = -18,      /* the text is not a batch, or not a dump */
     COSTORE_UNFIT = -19,     /* the batch removes a name that isn't there, or leaves no room for the name !batch */
     COSTORE_NO_BATCH = -20,  /* the object COSTORE_BATCH is not a batch */
@@ -113,7 +113,7 @@ int32_t costore_new(costore_region file, uint64_t length, costore_region log, vo
    longer than its layout is cut. If the file was interrupted within a flush, this finishes the flush. The log has all
    that.
 
-   COSTORE_DONE; COSTORE_NOT_FED, and the handle stays as it is. Else the handle is closed: COSTORE_NO_STORE;
+   COSTORE_DONE; COSTORE_NOT_NEW, and the handle stays as it is. Else the handle is closed: COSTORE_NO_STORE;
    COSTORE_NO_MEMORY; COSTORE_DISK (the log is too small for that flush: replay nothing, and lend the file's bytes anew
    with a larger log). */
 int32_t costore_open(costore *store);
@@ -123,7 +123,7 @@ int32_t costore_open(costore *store);
    k:     K, 2 to 64. A larger k makes a smaller file and more moves.
    names: NAMES, 16 to 65,536: how many names can be live. Each takes 160 bytes of the file.
 
-   COSTORE_DONE; COSTORE_BAD_NUMBER or COSTORE_NOT_FED, and the handle stays as it is. Else the handle is closed:
+   COSTORE_DONE; COSTORE_BAD_NUMBER or COSTORE_NOT_NEW, and the handle stays as it is. Else the handle is closed:
    COSTORE_NO_MEMORY; COSTORE_DISK. If you crash while replaying the log, the file is no store, or an empty store. */
 int32_t costore_format(costore *store, uint64_t k, uint64_t names);
 

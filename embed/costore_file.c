@@ -504,7 +504,7 @@ static int32_t take_empty(costore_file_t *f, const char *path) {
         return COSTORE_DONE;
     if (code == COSTORE_DONE)
         code = take(f, path, 0, &length);
-    return code == COSTORE_DONE && length > 0 ? COSTORE_NOT_FED : code;
+    return code == COSTORE_DONE && length > 0 ? COSTORE_NOT_NEW : code;
 }
 
 /* Makes the file unless it was taken, and syncs it and its entry in the folder. Nothing was written to it yet. */
@@ -516,7 +516,7 @@ static int32_t place(costore_file_t *f, const char *path) {
     if (code == COSTORE_DONE && f->fd < 0)
         code = take(f, path, O_CREAT | O_EXCL, &length);
     if (code == COSTORE_DONE && length > 0)
-        code = COSTORE_NOT_FED;
+        code = COSTORE_NOT_NEW;
     if (code == COSTORE_DONE && (fsync(f->fd) || fsync(folder)))
         code = COSTORE_SYSTEM;
     int why = errno;

@@ -66,7 +66,7 @@ int32_t costore_file_open(costore_file_t *f, const char *path, uint64_t room, ui
    k, names: as of costore_format.
    room, log: the most bytes of the file, and of a log; costore_need computes them.
 
-   COSTORE_DONE, or else the file is closed: COSTORE_BAD_NUMBER; COSTORE_NOT_FED (the file has bytes); COSTORE_DISK
+   COSTORE_DONE, or else the file is closed: COSTORE_BAD_NUMBER; COSTORE_NOT_NEW (the file has bytes); COSTORE_DISK
    (room or log is too small); COSTORE_NO_MEMORY; COSTORE_SYSTEM; COSTORE_LOCKED; COSTORE_NOT_A_FILE; COSTORE_GONE.
    Where the library refuses, no file is made. After COSTORE_SYSTEM and COSTORE_GONE a new file can be left, empty or
    partly written: cut it to length 0, or remove it, before the next try. */

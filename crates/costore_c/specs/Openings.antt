@@ -1,20 +1,20 @@
 -- What opening and closing do to what a handle holds.
 use Rattle.std.specs.Prelude.{◌≡◌, ◌<◌, ℤ, ℕ, List, length, pos, Ok}
 use Rattle.size_class.specs.declared.TheConstants.{CLASSES}
-use Rattle.disk_image.specs.Disks.{image_state}
-use Rattle.disk_image.specs.Notings.{lent}
-use Rattle.disk_image.specs.Rooms.{Filing, Logging}
+use Rattle.lent_disk.specs.Disks.{lent_state}
+use Rattle.lent_disk.specs.Notings.{lent}
+use Rattle.lent_disk.specs.Rooms.{Filing, Logging}
 use Rattle.slot_codec.specs.Readable.{IsSuperBlock}
 use Rattle.slot_pair.specs.Formats.{block_for}
 use Rattle.reopen.specs.Refusals.{RefusesToOpen}
 use Rattle.reopen.specs.declared.fault.OpenFault.{OpenFault}
 use Rattle.store_model.specs.Opened.{IsOpening}
-use Rattle.image_store.specs.Embedded.{disk_of}
-use Rattle.image_store.specs.Made.{IsMade, NotMade}
-use Rattle.image_store.specs.Noted.{IsNotedOf}
+use Rattle.lent_store.specs.Embedded.{disk_of}
+use Rattle.lent_store.specs.Made.{IsMade, NotMade}
+use Rattle.lent_store.specs.Noted.{IsNotedOf}
 use Rattle.store_handle.specs.declared.Stage.{Stage}
 use Rattle.store_handle.specs.declared.Stage.TheVariants as stage
-use Rattle.costore_c.specs.Answers.{bad_number_code, closed_code, not_fed_code, opening_code}
+use Rattle.costore_c.specs.Answers.{bad_number_code, closed_code, not_new_code, opening_code}
 
 -- a file of so many bytes doesn't fit its region
 abbrev pub IsTooLong : ℕ → List ℕ → Type 0
@@ -24,39 +24,39 @@ IsTooLong n region = length region < n
 -- or the handle is closed, and the code says why
 abbrev pub IsOpenOf : Filing → Logging → Stage → ℤ → Type 0
 IsOpenOf room log (stage.Open s) code = (code ≡ pos 0)
-    × IsOpening CLASSES (image_state (lent room.file room.most log.most)) (disk_of s) (Ok s.store)
+    × IsOpening CLASSES (lent_state (lent room.file room.most log.most)) (disk_of s) (Ok s.store)
     × IsNotedOf room.file s
 IsOpenOf room log stage.Closed code = (why : OpenFault) × (code ≡ opening_code why)
     × RefusesToOpen CLASSES room.file why
-IsOpenOf room log (stage.Fed r l) code = ⊥
+IsOpenOf room log (stage.Lent r l) code = ⊥
 
-abbrev pub OpensFed : Stage → Stage → ℤ → Type 0
-OpensFed (stage.Fed room log) now code = IsOpenOf room log now code
-OpensFed stage.Closed now code = (now ≡ stage.Closed) × (code ≡ not_fed_code)
-OpensFed (stage.Open s) now code = (now ≡ stage.Open s) × (code ≡ not_fed_code)
+abbrev pub OpensLent : Stage → Stage → ℤ → Type 0
+OpensLent (stage.Lent room log) now code = IsOpenOf room log now code
+OpensLent stage.Closed now code = (now ≡ stage.Closed) × (code ≡ not_new_code)
+OpensLent (stage.Open s) now code = (now ≡ stage.Open s) × (code ≡ not_new_code)
 
 -- the store of the empty map was made for these numbers; or the handle is closed, since there was no memory
 -- or the room or the log was too small
 abbrev pub IsMadeOf : ℕ → ℕ → Stage → ℤ → Type 0
 IsMadeOf k names (stage.Open s) code = (code ≡ pos 0) × IsMade k names s
 IsMadeOf k names stage.Closed code = (why : OpenFault) × (code ≡ opening_code why) × NotMade why
-IsMadeOf k names (stage.Fed r l) code = ⊥
+IsMadeOf k names (stage.Lent r l) code = ⊥
 
 -- so of a file without bytes; any other handle stays
-abbrev pub MakesFed : ℕ → ℕ → Stage → Stage → ℤ → Type 0
-MakesFed k names (stage.Fed room log) now code =
+abbrev pub MakesLent : ℕ → ℕ → Stage → Stage → ℤ → Type 0
+MakesLent k names (stage.Lent room log) now code =
     (length room.file ≡ 0 → IsMadeOf k names now code)
-    × (0 < length room.file → (now ≡ stage.Fed room log) × (code ≡ not_fed_code))
-MakesFed k names stage.Closed now code = (now ≡ stage.Closed) × (code ≡ not_fed_code)
-MakesFed k names (stage.Open s) now code = (now ≡ stage.Open s) × (code ≡ not_fed_code)
+    × (0 < length room.file → (now ≡ stage.Lent room log) × (code ≡ not_new_code))
+MakesLent k names stage.Closed now code = (now ≡ stage.Closed) × (code ≡ not_new_code)
+MakesLent k names (stage.Open s) now code = (now ≡ stage.Open s) × (code ≡ not_new_code)
 
 -- numbers out of their ranges come first
 pub record Formats (k names : ℕ) (old now : Stage) (code : ℤ) : Type 0 where
   pub bad : ¬ IsSuperBlock (block_for k names) → (now ≡ old) × (code ≡ bad_number_code)
-  pub makes : IsSuperBlock (block_for k names) → MakesFed k names old now code
+  pub makes : IsSuperBlock (block_for k names) → MakesLent k names old now code
 
 -- a handle is closed; one that was is told
 abbrev pub Closes : Stage → Stage → ℤ → Type 0
 Closes stage.Closed now code = (now ≡ stage.Closed) × (code ≡ closed_code)
-Closes (stage.Fed room log) now code = (now ≡ stage.Closed) × (code ≡ pos 0)
+Closes (stage.Lent room log) now code = (now ≡ stage.Closed) × (code ≡ pos 0)
 Closes (stage.Open s) now code = (now ≡ stage.Closed) × (code ≡ pos 0)

@@ -3,17 +3,16 @@ ghost use Rattle.std.specs.Prelude.{◌≡◌, ◌⊎◌, ◌↔◌, pos};
 ghost use Rattle.slot_codec.specs.Readable.{IsSuperBlock};
 ghost use Rattle.slot_pair.specs.Formats.{block_for};
 ghost use Rattle.costore_c.specs.Answers.{bad_number_code, no_memory_code};
-ghost use Rattle.costore_c.specs.Openings.{Closes, Formats, IsOpenOf, IsTooLong, MakesFed, OpensFed};
+ghost use Rattle.costore_c.specs.Openings.{Closes, Formats, IsOpenOf, IsTooLong, MakesLent, OpensLent};
 ghost use Rattle.store_handle.specs.declared.Stage.TheVariants as Stage;
 
-use crate::codes::{BAD_NUMBER, CLOSED, DONE, NO_MEMORY, NOT_FED, of_opening};
-use disk_image::{Log, Room};
-use erased::Erased;
-use image_store::ImageStore;
+use crate::codes::{BAD_NUMBER, CLOSED, DONE, NO_MEMORY, NOT_NEW, of_opening};
+use lent_disk::{Log, Room};
 use lent_region::Region;
+use lent_store::LentStore;
 use std::alloc::Global;
 use std::mem;
-use store_handle::{Handle, Held, Stage};
+use store_handle::{Erased, Handle, Held, Stage};
 
 /// Makes a handle over two lent regions, and writes its pointer. The first has the file's `length` bytes at
 /// its front, as they are on the device, and as many bytes as the file can have; the second is for the log of
@@ -37,7 +36,7 @@ pub extern "C" fn costore_new(
         return BAD_NUMBER;
     }
     let room = Room::of(file, length as usize);
-    let stage = Stage::Fed(room, log);
+    let stage = Stage::Lent(room, log);
     match Box::new(alloc, Held { stage }) {
         Ok(held) => {
             *out = Handle::of(Erased::of(held)).into_ptr();
@@ -51,23 +50,23 @@ pub extern "C" fn costore_new(
 /// handle is closed.
 #[unsafe(no_mangle)]
 pub extern "C" fn costore_open(alloc: Global, store: &mut Handle) -> i32
-    ensures { OpensFed store.old.value.stage store.new.value.stage result }
+    ensures { OpensLent store.old.value.stage store.new.value.stage result }
 {
     let held = store.held();
     match mem::replace(&mut held.stage, Stage::Closed) {
-        Stage::Fed(room, log) => open_fed(alloc, room, log, &mut held.stage),
+        Stage::Lent(room, log) => open_lent(alloc, room, log, &mut held.stage),
         stage => {
             held.stage = stage;
-            NOT_FED
+            NOT_NEW
         }
     }
 }
 
 /// The same of a file and a log.
-fn open_fed(alloc: Global, room: Room, log: Log, stage: &mut Stage) -> i32
+fn open_lent(alloc: Global, room: Room, log: Log, stage: &mut Stage) -> i32
     ensures { IsOpenOf room.entry log.entry stage.new result }
 {
-    match ImageStore::open(alloc, room, log) {
+    match LentStore::open(alloc, room, log) {
         Ok(open) => {
             *stage = Stage::Open(open);
             DONE
@@ -90,24 +89,24 @@ pub extern "C" fn costore_format(alloc: Global, store: &mut Handle, k: u64, name
     }
     let held = store.held();
     match mem::replace(&mut held.stage, Stage::Closed) {
-        Stage::Fed(room, log) => make_fed(alloc, room, log, k, names, &mut held.stage),
+        Stage::Lent(room, log) => make_lent(alloc, room, log, k, names, &mut held.stage),
         stage => {
             held.stage = stage;
-            NOT_FED
+            NOT_NEW
         }
     }
 }
 
 /// The same of a file and a log; the file is to have no bytes.
-fn make_fed(alloc: Global, room: Room, log: Log, k: u64, names: u64, stage: &mut Stage) -> i32
+fn make_lent(alloc: Global, room: Room, log: Log, k: u64, names: u64, stage: &mut Stage) -> i32
     requires ranges { IsSuperBlock (block_for k names) }
-    ensures { MakesFed k names (Stage.Fed room.entry log.entry) stage.new result }
+    ensures { MakesLent k names (Stage.Lent room.entry log.entry) stage.new result }
 {
     if room.end() != 0 {
-        *stage = Stage::Fed(room, log);
-        return NOT_FED;
+        *stage = Stage::Lent(room, log);
+        return NOT_NEW;
     }
-    match ImageStore::format(alloc, room, log, k, names) {
+    match LentStore::format(alloc, room, log, k, names) {
         Ok(open) => {
             *stage = Stage::Open(open);
             DONE

@@ -7,9 +7,12 @@ ghost use Rattle.std.specs.contracts.impls.GlobalAllocator.TheImpl.{ghosts};
 ghost use Rattle.store_handle.specs.declared.Held.{Held};
 ghost use Rattle.store_handle.specs.contracts.Held.{the_row as held};
 
-use disk_image::{Log, Room};
-use erased::{Erased, Opaque};
-use image_store::ImageStore;
+mod erased;
+
+pub use erased::{Erased, Opaque};
+
+use lent_disk::{Log, Room};
+use lent_store::LentStore;
 use std::alloc::Global;
 use std::marker::Model;
 
@@ -19,9 +22,9 @@ pub enum Stage {
     /// It has no file.
     Closed,
     /// It has a file and the memory of a log, and no store yet.
-    Fed(Room, Log),
+    Lent(Room, Log),
     /// It has an open store.
-    Open(ImageStore),
+    Open(LentStore),
 }
 
 /// What a handle holds.

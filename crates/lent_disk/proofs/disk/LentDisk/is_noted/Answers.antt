@@ -1,0 +1,12 @@
+use Rattle.std.proofs.Common.{subst}
+use Rattle.disk_history.specs.Histories.{EndedBy}
+use Rattle.lent_disk.specs.Notings.{IsLog, Noting}
+use Rattle.lent_disk.proofs.disk.LentDisk.is_noted.Goals as goal
+
+pub returns-clause-log : goal.returns-clause-log
+returns-clause-log c =
+    subst (λ (n : Noting). IsLog n.start n.history n.text) c.self.view_is c.self.invariant.log
+
+pub returns-clause-ended : goal.returns-clause-ended
+returns-clause-ended c =
+    subst (λ (n : Noting). EndedBy n.history.turn n.history.calls) c.self.view_is c.self.invariant.ended

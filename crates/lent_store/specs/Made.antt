@@ -1,0 +1,35 @@
+-- A store that was made of a file without bytes.
+use Rattle.std.specs.Prelude.{◌≡◌, ◌⊎◌, ℕ, List, []}
+use Rattle.std.specs.FinMap as fin
+use Rattle.size_class.specs.declared.TheConstants.{CLASSES}
+use Rattle.segment_layout.specs.Books.{empty_book}
+use Rattle.slot_pair.specs.Formats.{IsNoStore, first_in_use, formatted_file}
+use Rattle.slot_pair.specs.declared.find.SlotFault.TheVariants as slot
+use Rattle.reopen.specs.declared.fault.OpenFault.{OpenFault}
+use Rattle.reopen.specs.declared.fault.OpenFault.TheVariants as fault
+use Rattle.store_model.specs.Connection.{IsOver, state_of}
+use Rattle.store_model.specs.Opened.{IsFresh, state_at}
+use Rattle.load_stream.specs.Saved.{OpensEmpty}
+use Rattle.lent_store.specs.Embedded.{Embedded, file_in}
+use Rattle.lent_store.specs.Noted.{IsNotedOf, RestsOnKept, StopsFrom}
+
+-- an image is no store, or opens to the empty map, and is made for these numbers
+abbrev pub IsFormatImage : ℕ → ℕ → List ℕ → Type 0
+IsFormatImage k names image = IsNoStore image ⊎ OpensEmpty k names image
+
+-- It is the store of the empty map with these numbers, its file is what is formatted for them, its log spells
+-- how the file came to be, and it rests on its checkpoint. Where the making of that log stops, a crash leaves
+-- no store or one of the empty map.
+pub record IsMade (k names : ℕ) (s : Embedded) : Type 0 where
+  pub file : file_in s ≡ formatted_file k names
+  pub in_use : s.store.in_use ≡ first_in_use k names
+  pub state : state_of s.store (file_in s) ≡ state_at fin.empty empty_book 1
+  pub fresh : IsFresh CLASSES s.store
+  pub over : IsOver CLASSES s.store (file_in s)
+  pub rests : RestsOnKept s
+  pub noted : IsNotedOf [] s
+  pub stops : StopsFrom [] (IsFormatImage k names) s
+
+-- there was no memory, or the room or the log was too small
+abbrev pub NotMade : OpenFault → Type 0
+NotMade why = (why ≡ fault.NoMemory) ⊎ (why ≡ fault.Slot slot.Disk)

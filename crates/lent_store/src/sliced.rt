@@ -1,0 +1,59 @@
+//! A flush of a store one move at a time.
+ghost use Rattle.std.specs.Prelude.{◌≡◌, IsSome, None, Ok, Some};
+ghost use Rattle.disk_face.specs.Writes.{KeepsDisk};
+ghost use Rattle.size_class.specs.declared.TheConstants.{CLASSES};
+ghost use Rattle.store_answers.specs.{Answers.{is_disk_fault}, Begins.{BeginsChange}, Steps.{AnswersStep, MakesOne, StepsHalf}};
+ghost use Rattle.store_model.specs.{Connection.{FlushInHand}, Halves.{HalfAgrees, Origin}, Quiet.{del_of, put_of}};
+
+use crate::LentStore;
+use store_core::{Begun, Progress, Refusal};
+
+impl LentStore {
+    ghost use Rattle.lent_store.specs.{Embedded.{disk_before, disk_of}, Noted.{IsNoted, RestsOnKept}};
+
+    /// Begins to put an object under a name: a quiet change is done, and of any other the flush is in hand.
+    pub fn begin_put(&mut self, name: &[u8], object: &[u8]) -> Result<Begun, Refusal>
+        requires idle { self.old.store.in_hand ≡ None }
+        ensures begins { BeginsChange CLASSES (put_of name.now object.now) self.old.store self.new.store
+            (disk_before self.old) (disk_of self.new) result }
+        ensures noted { IsNoted self.old self.new }
+    {
+        self.disk.empty_log();
+        let answer = self.store.begin_put(&mut self.disk, name, object);
+        self.disk.is_noted();
+        answer
+    }
+
+    /// Begins to remove a name.
+    pub fn begin_del(&mut self, name: &[u8]) -> Result<Begun, Refusal>
+        requires idle { self.old.store.in_hand ≡ None }
+        ensures begins { BeginsChange CLASSES (del_of name.now) self.old.store self.new.store
+            (disk_before self.old) (disk_of self.new) result }
+        ensures noted { IsNoted self.old self.new }
+    {
+        self.disk.empty_log();
+        let answer = self.store.begin_del(&mut self.disk, name);
+        self.disk.is_noted();
+        answer
+    }
+
+    /// Makes the next move of the flush in hand, or settles it: then the store rests on its checkpoint.
+    pub fn step(&mut self) -> Result<Progress, Refusal>
+        requires half { IsSome self.old.store.in_hand }
+        ensures answer { AnswersStep result }
+        ensures makes { (h : FlushInHand) → self.old.store.in_hand ≡ Some h → MakesOne self.old.store
+            self.new.store h (disk_before self.old) (disk_of self.new) result }
+        ensures half { (h : FlushInHand) (o : Origin) → self.old.store.in_hand ≡ Some h
+            → HalfAgrees CLASSES self.old.store h o (disk_before self.old)
+            → StepsHalf CLASSES o self.old.store self.new.store (disk_before self.old) (disk_of self.new)
+            result }
+        ensures broken { self.new.store.is_broken ≡ is_disk_fault result }
+        ensures rests { result ≡ Ok Progress.Settled → RestsOnKept self.new }
+        ensures noted { IsNoted self.old self.new }
+    {
+        self.disk.empty_log();
+        let answer = self.store.step(&mut self.disk);
+        self.disk.is_noted();
+        answer
+    }
+}
