@@ -3,7 +3,7 @@ use Rattle.std.proofs.Common.{◌≡◌, ◌∙◌, ap, sym, subst, refl, arith,
 use Rattle.std.specs.Prelude.{◌⊎◌, ◌≤◌, ◌<◌, ◌-◌, ◌^◌}
 use Rattle.disk_face.specs.Images.{Unsynced, IsImage}
 use Rattle.disk_history.specs.Changes.{RecordedCall, Stamped, content_after, during, left_by, unsynced_after}
-use Rattle.disk_history.specs.Histories.{History, EndedBy, LeftBefore, LeftSince, file_of, unsynced_of}
+use Rattle.disk_history.specs.Histories.{History, EndedBy, LeftBefore, LeftSince, MayLeave, file_of, unsynced_of}
 use Rattle.disk_history.proofs.HistoryLaws.{before_turn, image_during}
 use Rattle.lent_disk.specs.Calls.{FitEntries, text_of}
 use Rattle.lent_disk.specs.Notings.{BeganFrom, IsLog, changes}
@@ -65,4 +65,21 @@ pub spelled_stop : (start h : History) (text : List ℕ) (calls : List RecordedC
 spelled_stop start h text calls image l ended spells fits is =
     stopped_is_left start h text l image ended
     (subst (λ x. IsStopped start x image)
+    (one_list calls (changes l.calls) fits l.fits (sym spells ∙ l.spells)) is)
+
+-- ---- once all calls were made
+
+-- what stands unsynced then is what the disk says
+made_is : (start h : History) (text : List ℕ) (l : IsLog start h text)
+    → unsynced_on start (changes l.calls) ≡ unsynced_of h
+made_is start h text l = unsynced_is start l.calls
+    ∙ ap (unsynced_after start.base) (sym l.grows)
+    ∙ ap (λ base. unsynced_after base h.calls) (sym l.same_base)
+
+pub spelled_made : (start h : History) (text : List ℕ) (calls : List RecordedCall) (image : List ℕ)
+    → IsLog start h text → text ≡ text_of calls → FitEntries calls → IsImage (unsynced_on start calls) image
+    → MayLeave h image
+spelled_made start h text calls image l spells fits is =
+    subst (λ u. IsImage u image) (made_is start h text l)
+    (subst (λ x. IsImage (unsynced_on start x) image)
     (one_list calls (changes l.calls) fits l.fits (sym spells ∙ l.spells)) is)

@@ -1,7 +1,8 @@
 //! What follows of the calls of a log.
 ghost use Rattle.std.specs.Prelude.{◌≡◌, ◌++◌, ◌≤◌, ℕ, List};
-ghost use Rattle.disk_history.specs.{Changes.{RecordedCall}, Histories.{History, EndedBy, LeftSince, file_of}};
-ghost use Rattle.lent_disk.specs.{Calls.{FitEntries, replayed, text_of}, Notings.{IsLog}, Stops.{IsStopped}, Words.{word_of}};
+ghost use Rattle.disk_face.specs.Images.{IsImage};
+ghost use Rattle.disk_history.specs.{Changes.{RecordedCall}, Histories.{History, EndedBy, LeftSince, MayLeave, file_of}};
+ghost use Rattle.lent_disk.specs.{Calls.{FitEntries, replayed, text_of}, Notings.{IsLog}, Stops.{IsStopped, unsynced_on}, Words.{word_of}};
 
 /// A text spells one list of calls, and a front of it that is a text spells the oldest of them.
 pub fn a_text_spells_one_list_of_calls()
@@ -22,6 +23,13 @@ pub fn a_stopped_replay_leaves_an_image()
     ensures { (start h : History) (text : List ℕ) (calls : List RecordedCall) (image : List ℕ)
         → IsLog start h text → EndedBy h.turn h.calls → text ≡ text_of calls → FitEntries calls
         → IsStopped start calls image → LeftSince h start.turn image }
+{}
+
+/// Once all of them were made, a crash leaves only what the disk says may be left now.
+pub fn a_made_log_leaves_what_the_disk_says()
+    ensures { (start h : History) (text : List ℕ) (calls : List RecordedCall) (image : List ℕ)
+        → IsLog start h text → text ≡ text_of calls → FitEntries calls
+        → IsImage (unsynced_on start calls) image → MayLeave h image }
 {}
 
 /// No two histories have one word.
