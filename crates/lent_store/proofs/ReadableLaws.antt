@@ -12,7 +12,6 @@ use Rattle.std.specs.Prelude.{Result, Some}
 use Rattle.store_answers.specs.Steps.{GoesOnHalf, StepsHalf}
 use Rattle.store_model.specs.Connection.{FlushInHand, RestsOnTable, StoreValue, base_of}
 use Rattle.store_model.specs.Halves.{HalfAgrees, IsHalfway, IsReadable, Origin}
-use Rattle.lent_store.specs.Embedded.{Embedded, disk_before}
 
 pub no_some : {A P : Type 0} (o : Option A) → IsSome o → o ≡ None → P
 no_some None some none = absurd (search rules)
@@ -35,23 +34,6 @@ halfway_emptied {s} n {new} e is some =
         record { flies = (h.half told).1.flies; loose = (h.half told).1.loose },
       );
     }
-
--- what a step leaves of a disk that half agreed, by what was seen
-pub steps_seen : {e seen : Embedded} {before : Noting} {new : StoreValue} {now : disk.State}
-    {result : Result Progress Refusal} → seen ≡ e → before ≡ emptied seen.noting
-    → ((h : FlushInHand) (o : Origin) → seen.store.in_hand ≡ Some h
-    → HalfAgrees CLASSES seen.store h o (lent_state before)
-    → StepsHalf CLASSES o seen.store new (lent_state before) now result)
-    → (h : FlushInHand) (o : Origin) → e.store.in_hand ≡ Some h
-    → HalfAgrees CLASSES e.store h o (disk_before e)
-    → StepsHalf CLASSES o e.store new (disk_before e) now result
-steps_seen {e} {seen} {before} {new} {now} {result} is began half =
-    subst (λ (x : Embedded). (h : FlushInHand) (o : Origin) → x.store.in_hand ≡ Some h
-    → HalfAgrees CLASSES x.store h o (disk_before x)
-    → StepsHalf CLASSES o x.store new (disk_before x) now result) is
-    (subst (λ (n : Noting). (h : FlushInHand) (o : Origin) → seen.store.in_hand ≡ Some h
-    → HalfAgrees CLASSES seen.store h o (lent_state n)
-    → StepsHalf CLASSES o seen.store new (lent_state n) now result) began half)
 
 -- once a step has settled a flush
 pub settled_rests : {s new : StoreValue} (n : Noting) {before : Noting} {now : disk.State}

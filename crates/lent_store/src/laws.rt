@@ -7,8 +7,8 @@ ghost use Rattle.map_model.specs.{Maps.{Map}, Requests.{Change}};
 ghost use Rattle.map_model.specs.Requests as ask;
 ghost use Rattle.segment_layout.specs.Books.{Book};
 ghost use Rattle.table_rules.specs.Opening.{OpensBy};
-ghost use Rattle.store_answers.specs.{declared.answers.Begun.{Begun}, declared.answers.Done.{Done}, declared.answers.Progress.{Progress}, declared.answers.Refusal.{Refusal}, Answers.{refused_by}, Begins.{BeginsChange}, Changes.{NothingChanged}, Changing.{IsChange}, Keeps.{KeepsNow, OpensToKeptOrNow}, Steps.{StepsHalf}};
-ghost use Rattle.store_model.specs.{Connection.{FlushInHand}, Halves.{IsHalfImage, Origin}, Opened.{IsFoundImage, IsOpening, LeavesRoom}};
+ghost use Rattle.store_answers.specs.{declared.answers.Begun.{Begun}, declared.answers.Done.{Done}, declared.answers.Progress.{Progress}, declared.answers.Refusal.{Refusal}, Answers.{refused_by}, Begins.{BeginsChange}, Changes.{NothingChanged}, Changing.{IsChange}, Keeps.{KeepsNow, OpensToKeptOrNow}, Steps.{IsStep}};
+ghost use Rattle.store_model.specs.{Connection.{FlushInHand}, Halves.{HalfAgrees, IsHalfImage, Origin}, Opened.{IsFoundImage, IsOpening, LeavesRoom}};
 ghost use Rattle.lent_store.specs.{Embedded.{Embedded, disk_before, disk_of, file_in}, Noted.{IsChangeImage, IsNoted, IsNotedOf, RestsOnKept, StopsAt, StopsFrom}};
 
 /// Where the calls that a put or a removal noted are made in order on its file and that stops, before, within
@@ -39,8 +39,8 @@ pub fn a_stopped_flush_opens()
         → IsNoted old new → RestsOnKept old → old.noting.history.turn < 2 ^ 64 - 1
         → StopsAt old new (IsChangeImage c old) }
     ensures step { (h : FlushInHand) (o : Origin) (old new : Embedded) (result : Result Progress Refusal)
-        → old.store.in_hand ≡ Some h
-        → StepsHalf CLASSES o old.store new.store (disk_before old) (disk_of new) result → IsNoted old new
+        → IsStep CLASSES old.store new.store (disk_before old) (disk_of new) result → IsNoted old new
+        → old.store.in_hand ≡ Some h → HalfAgrees CLASSES old.store h o (disk_of old)
         → IsTrue o.is_at_rest → old.noting.history.turn < 2 ^ 64 - 1
         → StopsAt old new (IsHalfImage CLASSES old.store h o) }
 {}

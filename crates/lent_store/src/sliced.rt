@@ -1,9 +1,8 @@
 //! A flush of a store one move at a time.
-ghost use Rattle.std.specs.Prelude.{◌≡◌, IsSome, None, Ok, Some};
-ghost use Rattle.disk_face.specs.Writes.{KeepsDisk};
+ghost use Rattle.std.specs.Prelude.{◌≡◌, IsSome, None, Ok};
 ghost use Rattle.size_class.specs.declared.TheConstants.{CLASSES};
-ghost use Rattle.store_answers.specs.{Answers.{is_disk_fault}, Begins.{BeginsChange}, Steps.{AnswersStep, MakesOne, StepsHalf}};
-ghost use Rattle.store_model.specs.{Connection.{FlushInHand}, Halves.{HalfAgrees, Origin}, Quiet.{del_of, put_of}};
+ghost use Rattle.store_answers.specs.{Begins.{BeginsChange}, Steps.{IsStep}};
+ghost use Rattle.store_model.specs.Quiet.{del_of, put_of};
 
 use crate::LentStore;
 use store_core::{Begun, Progress, Refusal};
@@ -40,14 +39,8 @@ impl LentStore {
     /// Makes the next move of the flush in hand, or settles it: then the store rests on its checkpoint.
     pub fn step(&mut self) -> Result<Progress, Refusal>
         requires half { IsSome self.old.store.in_hand }
-        ensures answer { AnswersStep result }
-        ensures makes { (h : FlushInHand) → self.old.store.in_hand ≡ Some h → MakesOne self.old.store
-            self.new.store h (disk_before self.old) (disk_of self.new) result }
-        ensures half { (h : FlushInHand) (o : Origin) → self.old.store.in_hand ≡ Some h
-            → HalfAgrees CLASSES self.old.store h o (disk_before self.old)
-            → StepsHalf CLASSES o self.old.store self.new.store (disk_before self.old) (disk_of self.new)
-            result }
-        ensures broken { self.new.store.is_broken ≡ is_disk_fault result }
+        ensures step { IsStep CLASSES self.old.store self.new.store (disk_before self.old)
+            (disk_of self.new) result }
         ensures rests { result ≡ Ok Progress.Settled → RestsOnKept self.new }
         ensures noted { IsNoted self.old self.new }
     {

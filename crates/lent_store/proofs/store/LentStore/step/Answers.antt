@@ -2,7 +2,7 @@ use Rattle.std.proofs.Common.{arith, refl, rules, sym, subst}
 use Rattle.std.specs.Prelude.{IsSome}
 use Rattle.lent_store.specs.Embedded.{Embedded}
 use Rattle.lent_store.proofs.NotedLaws.{noted_call}
-use Rattle.lent_store.proofs.ReadableLaws.{halfway_emptied, settled_rests, steps_seen}
+use Rattle.lent_store.proofs.ReadableLaws.{halfway_emptied, settled_rests}
 use Rattle.lent_store.proofs.store.LentStore.step.Goals as goal
 
 pub step-answer-requires : goal.step-answer-requires
@@ -14,10 +14,6 @@ step-answer-requires c = (
         (subst (λ (e : Embedded). IsSome e.store.in_hand) (sym c.self.view_is) c.requires.half),
   ),
 )
-
-pub returns-clause-half : goal.returns-clause-half
-returns-clause-half c =
-    steps_seen c.self.view_is c.empty_log.ensures (c.step-answer.ensures.half refl)
 
 pub returns-clause-rests : goal.returns-clause-rests
 returns-clause-rests c =
