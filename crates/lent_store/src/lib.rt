@@ -5,6 +5,7 @@ mod batch;
 pub mod batch_laws;
 mod change;
 mod dumped;
+pub mod durable_laws;
 pub mod laws;
 mod reads;
 mod sliced;
