@@ -2,7 +2,7 @@
 use Rattle.std.proofs.Common.{◌≡◌, ◌∙◌, ap, arith, refl, subst, sym, inl, inr, Bool, true, false, ℕ, List}
 use Rattle.std.proofs.lemmas.Bool.{false≢true}
 use Rattle.std.specs.Prelude.{◌⊎◌, ◌<◌, ◌-◌, ◌^◌, ◌++◌, ◌||◌, Option, Some, None, IsNone, IsTrue, Ok, Err, Result, option_map}
-use Rattle.disk_history.specs.Histories.{MayLeave}
+use Rattle.disk_history.specs.Histories.{MayLeave, fresh}
 use Rattle.disk_history.specs.Lawful.{only_now_law}
 use Rattle.size_class.specs.declared.TheConstants.{CLASSES, SIZE_MAX}
 use Rattle.slot_codec.specs.Choice as choice
@@ -43,7 +43,7 @@ use Rattle.batch_model.specs.Views.{unbatched}
 use Rattle.lent_store.specs.Batched.{IsBatchImage, batch_for, batch_kept, begun_on, ended_on}
 use Rattle.lent_store.specs.Durable.{IsDurable, OnceMade, OpensTo, OpensWithin, WhereverStopped}
 use Rattle.lent_store.specs.Embedded.{Embedded, IsEmbedded, disk_before, disk_of, file_in}
-use Rattle.lent_store.specs.Noted.{IsChangeImage, IsNoted, RestsOnKept, StopsAt}
+use Rattle.lent_store.specs.Noted.{IsChangeImage, IsNoted, IsNotedOf, RestsOnKept, StopsAt}
 use Rattle.lent_store.proofs.BatchLaws.{stopped_apply, stopped_finish}
 use Rattle.lent_store.proofs.StopLaws.{stopped_begin, stopped_change, stopped_keep, stopped_step}
 
@@ -209,10 +209,10 @@ module _ (old new : Embedded) {m : Map} {b : Book} (d : IsDurable m b old) where
       (subst (λ (s : StoreValue). RestsOnTable (base_of s) s.kept (disk_of new)) (sym is.value.rest)
       (is.rests refl d.rests))
       (λ image may. elim ((is.left refl d.rests).each old.noting.history.turn image (omega (arith, low))
-          (noted.log.later, inl may)) as (λ _. OpensTo m b image) [
-            | inl past ↦ d.images image (only_now_law old.noting.history image low past)
-            | inr kept ↦ as_durable old d image kept.opens
-          ])
+      (noted.log.later, inl may)) as (λ _. OpensTo m b image) [
+        | inl past ↦ d.images image (only_now_law old.noting.history image low past)
+        | inr kept ↦ as_durable old d image kept.opens
+      ])
 
   pub stays_changed : (c : Change) → IsChange CLASSES c old.store new.store (disk_before old) (disk_of new)
       (Ok (record { kept = false })) → IsNoted old new → old.noting.history.turn < 2 ^ 64 - 1
@@ -241,7 +241,8 @@ module _ (old new : Embedded) {m : Map} {b : Book} (d : IsDurable m b old) where
         checkpoint = ap (λ (s : StoreValue). kept_map s (file_in new)) same.same_store
             ∙ ap (kept_map old.store) file ∙ d.checkpoint;
         accounts = ap (λ (s : StoreValue). s.kept_book) same.same_store ∙ d.accounts;
-        rests = subst (λ (s : StoreValue). RestsOnTable (base_of s) s.kept (disk_of new)) (sym same.same_store)
+        rests = subst (λ (s : StoreValue). RestsOnTable (base_of s) s.kept (disk_of new))
+            (sym same.same_store)
             (λ image may. subst (λ (f : List ℕ). SameOnTable (base_of old.store) old.store.kept f image)
             (sym file) (d.rests image (same.same_disk.images image may)));
         images = λ image may. d.images image (same.same_disk.images image may);
@@ -273,10 +274,16 @@ durable_opened e fresh over rests = record {
 -- ---- what a crash leaves
 
 pub leaves_made : (m : Map) (b : Book) (old new : Embedded) → IsNoted old new → IsDurable m b new
-    → OnceMade old new (OpensTo m b)
+    → OnceMade old.noting.history new.noting.text (OpensTo m b)
 leaves_made m b old new noted d calls image spells fits is =
     d.images image (spelled_made old.noting.history new.noting.history new.noting.text calls image noted.log
     spells fits is)
+
+pub leaves_opened : (file : List ℕ) (m : Map) (b : Book) (e : Embedded) → IsNotedOf file e → IsDurable m b e
+    → OnceMade (fresh file) e.noting.text (OpensTo m b)
+leaves_opened file m b e noted d calls image spells fits is =
+    d.images image (spelled_made (fresh file) e.noting.history e.noting.text calls image noted.log spells
+    fits is)
 
 leaves_in_hand : (h : FlushInHand) (o : Origin) (e : Embedded) (image : List ℕ)
     → HalfAgrees CLASSES e.store h o (disk_of e) → IsTrue o.is_at_rest → MayLeave e.noting.history image
@@ -286,18 +293,18 @@ leaves_in_hand h o e image half rest may =
     let opens : OpensTo either.m either.b image =
     record { table = either.t; opens = (either.images rest image may).opens } in
     elim either.checkpoint.either as (λ _. OpensTo o.kept_map o.kept_book image
-        ⊎ OpensTo o.after h.book_after image) [
-          | inl before ↦ inl (subst (λ (x : Map). OpensTo x o.kept_book image) before.0
-              (subst (λ (x : Book). OpensTo either.m x image) before.1 opens))
-          | inr after ↦ inr (subst (λ (x : Map). OpensTo x h.book_after image) after.0
-              (subst (λ (x : Book). OpensTo either.m x image) after.1 opens))
-        ]
+    ⊎ OpensTo o.after h.book_after image) [
+      | inl before ↦ inl (subst (λ (x : Map). OpensTo x o.kept_book image) before.0
+          (subst (λ (x : Book). OpensTo either.m x image) before.1 opens))
+      | inr after ↦ inr (subst (λ (x : Map). OpensTo x h.book_after image) after.0
+          (subst (λ (x : Book). OpensTo either.m x image) after.1 opens))
+    ]
 
 -- where the making of the calls stops
 module _ (old new : Embedded) (noted : IsNoted old new) (low : old.noting.history.turn < 2 ^ 64 - 1) where
   stopped_or : (P Q : List ℕ → Type 0) → StopsAt old new P
       → ((image : List ℕ) → MayLeave old.noting.history image → Q image)
-      → ((image : List ℕ) → P image → Q image) → WhereverStopped old new Q
+      → ((image : List ℕ) → P image → Q image) → WhereverStopped old.noting.history new.noting.text Q
   stopped_or P Q stops past now calls image spells fits is =
       elim (stops calls image spells fits is) as (λ _. Q image) [
         | inl may ↦ past image may
@@ -320,7 +327,7 @@ module _ (old new : Embedded) (noted : IsNoted old new) (low : old.noting.histor
 
     pub change_stopped : (c : Change) (result : Result Done Refusal)
         → IsChange CLASSES c old.store new.store (disk_before old) (disk_of new) result
-        → WhereverStopped old new (λ image. OpensTo m b image
+        → WhereverStopped old.noting.history new.noting.text (λ image. OpensTo m b image
         ⊎ OpensTo (map_after old.store c (file_in old)) (book_after old.store c (file_in old)) image)
     change_stopped c result is = stopped_or (IsChangeImage c old) _
         (stopped_change old new noted low c result is d.rests) (λ image may. inl (d.images image may))
@@ -328,7 +335,7 @@ module _ (old new : Embedded) (noted : IsNoted old new) (low : old.noting.histor
 
     pub begin_stopped : (c : Change) (result : Result Begun Refusal)
         → BeginsChange CLASSES c old.store new.store (disk_before old) (disk_of new) result
-        → WhereverStopped old new (λ image. OpensTo m b image
+        → WhereverStopped old.noting.history new.noting.text (λ image. OpensTo m b image
         ⊎ OpensTo (map_after old.store c (file_in old)) (book_after old.store c (file_in old)) image)
     begin_stopped c result is = stopped_or (IsChangeImage c old) _
         (stopped_begin old new noted low c result is d.rests) (λ image may. inl (d.images image may))
@@ -336,7 +343,7 @@ module _ (old new : Embedded) (noted : IsNoted old new) (low : old.noting.histor
 
     pub keep_stopped : (result : Result Done Refusal)
         → IsKeep CLASSES old.store new.store (disk_before old) (disk_of new) result
-        → WhereverStopped old new (λ image. OpensTo m b image
+        → WhereverStopped old.noting.history new.noting.text (λ image. OpensTo m b image
         ⊎ OpensTo (now_map old.store (file_in old)) old.store.book image)
     keep_stopped result is = stopped_or (OpensToKeptOrNow CLASSES old.store (file_in old)) _
         (stopped_keep old new noted low result is.refused is.kept d.rests)
@@ -351,7 +358,7 @@ module _ (old new : Embedded) (noted : IsNoted old new) (low : old.noting.histor
 
     pub apply_stopped : (text : List ℕ) (changes : List Change) (result : Result Bool BatchFault)
         → Applies CLASSES text (begun_on old) (ended_on new) result → IsBatch text changes
-        → WhereverStopped old new (λ image. OpensTo m b image
+        → WhereverStopped old.noting.history new.noting.text (λ image. OpensTo m b image
         ⊎ OpensWithin (batch_for old text changes) old image)
     apply_stopped text changes result is batch = stopped_or (IsBatchImage (batch_for old text changes) old) _
         (stopped_apply old new noted low text changes result is batch d.rests)
@@ -359,7 +366,7 @@ module _ (old new : Embedded) (noted : IsNoted old new) (low : old.noting.histor
 
     pub finish_stopped : (changes : List Change) (result : Result Bool BatchFault)
         → Finishes CLASSES (begun_on old) (ended_on new) result → IsBatch (kept_text (begun_on old)) changes
-        → WhereverStopped old new (λ image. OpensTo m b image
+        → WhereverStopped old.noting.history new.noting.text (λ image. OpensTo m b image
         ⊎ OpensWithin (batch_kept old changes) old image)
     finish_stopped changes result is batch = stopped_or (IsBatchImage (batch_kept old changes) old) _
         (stopped_finish old new noted low changes result is batch d.rests)
@@ -368,7 +375,7 @@ module _ (old new : Embedded) (noted : IsNoted old new) (low : old.noting.histor
   pub step_stopped : (h : FlushInHand) (o : Origin) (result : Result Progress Refusal)
       → IsStep CLASSES old.store new.store (disk_before old) (disk_of new) result
       → old.store.in_hand ≡ Some h → HalfAgrees CLASSES old.store h o (disk_of old) → IsTrue o.is_at_rest
-      → WhereverStopped old new (λ image. OpensTo o.kept_map o.kept_book image
+      → WhereverStopped old.noting.history new.noting.text (λ image. OpensTo o.kept_map o.kept_book image
       ⊎ OpensTo o.after h.book_after image)
   step_stopped h o result is hand half rest = stopped_or (IsHalfImage CLASSES old.store h o) _
       (stopped_step old new noted low h o result hand rest

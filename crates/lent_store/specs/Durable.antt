@@ -1,9 +1,9 @@
--- What is durable in a store whose program makes the whole log of each call on the file before the next one.
+-- What is durable in a store over a file in memory, if the whole log of each call is made before the next.
 use Rattle.std.specs.Prelude.{◌≡◌, ℕ, List}
 use Rattle.size_class.specs.declared.TheConstants.{CLASSES, SIZE_MAX}
 use Rattle.disk_face.specs.Images.{IsImage}
 use Rattle.disk_history.specs.Changes.{RecordedCall}
-use Rattle.disk_history.specs.Histories.{MayLeave}
+use Rattle.disk_history.specs.Histories.{History, MayLeave}
 use Rattle.lent_disk.specs.Calls.{FitEntries, text_of}
 use Rattle.lent_disk.specs.Stops.{IsStopped, unsynced_on}
 use Rattle.map_model.specs.Maps.{Map}
@@ -32,13 +32,13 @@ abbrev pub OpensWithin : Batch → Embedded → List ℕ → Type 0
 OpensWithin batch e image =
     (m : Map) × IsBatchMap batch m × OpensAs CLASSES (version_of e.store.book) m image
 
--- Once all the calls of a log were made on the file of before, an image has P. It is no matter by which calls
--- the text is spelled.
-abbrev pub OnceMade : Embedded → Embedded → (List ℕ → Type 0) → Type 0
-OnceMade old new P = (calls : List RecordedCall) (image : List ℕ) → new.noting.text ≡ text_of calls
-    → FitEntries calls → IsImage (unsynced_on old.noting.history calls) image → P image
+-- Once all the calls were made that a text spells, after a history of the file, an image has P. It is no
+-- matter by which calls the text is spelled.
+abbrev pub OnceMade : History → List ℕ → (List ℕ → Type 0) → Type 0
+OnceMade start text P = (calls : List RecordedCall) (image : List ℕ) → text ≡ text_of calls
+    → FitEntries calls → IsImage (unsynced_on start calls) image → P image
 
--- The same wherever the making of the calls stops. What a crash might have left before is no longer excepted.
-abbrev pub WhereverStopped : Embedded → Embedded → (List ℕ → Type 0) → Type 0
-WhereverStopped old new P = (calls : List RecordedCall) (image : List ℕ) → new.noting.text ≡ text_of calls
-    → FitEntries calls → IsStopped old.noting.history calls image → P image
+-- the same wherever the making of the calls stops
+abbrev pub WhereverStopped : History → List ℕ → (List ℕ → Type 0) → Type 0
+WhereverStopped start text P = (calls : List RecordedCall) (image : List ℕ) → text ≡ text_of calls
+    → FitEntries calls → IsStopped start calls image → P image

@@ -27,8 +27,8 @@ impl LentStore {
     }
 
     /// Does the puts and removals of a text as one, as `Batcher::apply` does. The log has the calls of all of
-    /// it: where their making stops, the file opens to what stood before, or to a map that `finish` goes on
-    /// from.
+    /// it: where their making stops, the file opens to the last checkpoint from before, or to a map that
+    /// `finish` goes on from.
     pub fn apply(&mut self, text: &[u8]) -> Result<bool, BatchFault>
         requires idle { self.old.store.in_hand ≡ None }
         requires free { self.old.store.is_broken ≡ false → fin.get self.old.store.now batch_name ≡ None }

@@ -1,5 +1,6 @@
-//! What is durable in a store over a file in memory, where the whole log of each call is made before the next.
+//! What is durable in a store over a file in memory, if the whole log of each call is made before the next.
 ghost use Rattle.std.specs.Prelude.{◌≡◌, ◌⊎◌, ◌<◌, ◌-◌, ◌^◌, ℕ, Bool, List, true, false, Ok, None, Some, Result, IsTrue};
+ghost use Rattle.disk_history.specs.Histories.{fresh};
 ghost use Rattle.size_class.specs.declared.TheConstants.{CLASSES};
 ghost use Rattle.map_model.specs.{Maps.{Map}, Requests.{Change}};
 ghost use Rattle.segment_layout.specs.Books.{Book};
@@ -9,7 +10,7 @@ ghost use Rattle.store_answers.specs.{declared.answers.Begun.{Begun}, declared.a
 ghost use Rattle.store_model.specs.{Connection.{FlushInHand, IsOver, kept_map}, Halves.{HalfAgrees, Origin}, Opened.{IsFresh}};
 ghost use Rattle.batch_core.specs.{Answers.{Applies, Finishes, kept_text}, declared.fault.BatchFault.{BatchFault}};
 ghost use Rattle.batch_model.specs.{Batches.{IsBatch, applied}, Views.{unbatched}};
-ghost use Rattle.lent_store.specs.{Batched.{batch_for, batch_kept, begun_on, ended_on}, Durable.{IsDurable, OnceMade, OpensTo, OpensWithin, WhereverStopped}, Embedded.{Embedded, IsEmbedded, disk_before, disk_of, file_in}, Noted.{IsNoted, RestsOnKept}};
+ghost use Rattle.lent_store.specs.{Batched.{batch_for, batch_kept, begun_on, ended_on}, Durable.{IsDurable, OnceMade, OpensTo, OpensWithin, WhereverStopped}, Embedded.{Embedded, IsEmbedded, disk_before, disk_of, file_in}, Noted.{IsNoted, IsNotedOf, RestsOnKept}};
 
 /// What a call has kept is durable: the map after a put, a removal, a keep, a flush that a step settled, a
 /// batch or the finish of one.
@@ -51,10 +52,12 @@ pub fn what_is_durable_stays()
         → RestsOnKept e → IsDurable (kept_map e.store (file_in e)) e.store.kept_book e }
 {}
 
-/// Once the whole log of a call was made on its file, a crash leaves what is durable after the call.
+/// Once the whole log of a call, or of an opening, was made on its file, a crash leaves what is durable then.
 pub fn a_whole_log_leaves_what_is_durable()
-    ensures { (m : Map) (b : Book) (old new : Embedded) → IsNoted old new → IsDurable m b new
-        → OnceMade old new (OpensTo m b) }
+    ensures call { (m : Map) (b : Book) (old new : Embedded) → IsNoted old new → IsDurable m b new
+        → OnceMade old.noting.history new.noting.text (OpensTo m b) }
+    ensures opening { (file : List ℕ) (m : Map) (b : Book) (e : Embedded) → IsNotedOf file e
+        → IsDurable m b e → OnceMade (fresh file) e.noting.text (OpensTo m b) }
 {}
 
 /// Where the making of a log stops, before, within or after one of its calls, a crash leaves what was durable
@@ -64,33 +67,33 @@ pub fn a_stopped_log_leaves_what_is_durable()
     ensures change { (c : Change) (m : Map) (b : Book) (old new : Embedded) (result : Result Done Refusal)
         → IsChange CLASSES c old.store new.store (disk_before old) (disk_of new) result → IsNoted old new
         → old.noting.history.turn < 2 ^ 64 - 1 → IsDurable m b old
-        → WhereverStopped old new (λ image. OpensTo m b image ⊎ OpensTo (map_after old.store c (file_in old))
-        (book_after old.store c (file_in old)) image) }
+        → WhereverStopped old.noting.history new.noting.text (λ image. OpensTo m b image
+        ⊎ OpensTo (map_after old.store c (file_in old)) (book_after old.store c (file_in old)) image) }
     ensures keep { (m : Map) (b : Book) (old new : Embedded) (result : Result Done Refusal)
         → IsKeep CLASSES old.store new.store (disk_before old) (disk_of new) result → IsNoted old new
         → old.noting.history.turn < 2 ^ 64 - 1 → IsDurable m b old
-        → WhereverStopped old new (λ image. OpensTo m b image
+        → WhereverStopped old.noting.history new.noting.text (λ image. OpensTo m b image
         ⊎ OpensTo (now_map old.store (file_in old)) old.store.book image) }
     ensures begin { (c : Change) (m : Map) (b : Book) (old new : Embedded) (result : Result Begun Refusal)
         → BeginsChange CLASSES c old.store new.store (disk_before old) (disk_of new) result
         → IsNoted old new → old.noting.history.turn < 2 ^ 64 - 1 → IsDurable m b old
-        → WhereverStopped old new (λ image. OpensTo m b image ⊎ OpensTo (map_after old.store c (file_in old))
-        (book_after old.store c (file_in old)) image) }
+        → WhereverStopped old.noting.history new.noting.text (λ image. OpensTo m b image
+        ⊎ OpensTo (map_after old.store c (file_in old)) (book_after old.store c (file_in old)) image) }
     ensures step { (h : FlushInHand) (o : Origin) (old new : Embedded) (result : Result Progress Refusal)
         → IsStep CLASSES old.store new.store (disk_before old) (disk_of new) result → IsNoted old new
         → old.store.in_hand ≡ Some h → HalfAgrees CLASSES old.store h o (disk_of old)
         → IsTrue o.is_at_rest → old.noting.history.turn < 2 ^ 64 - 1
-        → WhereverStopped old new (λ image. OpensTo o.kept_map o.kept_book image
+        → WhereverStopped old.noting.history new.noting.text (λ image. OpensTo o.kept_map o.kept_book image
         ⊎ OpensTo o.after h.book_after image) }
     ensures apply { (text : List ℕ) (changes : List Change) (m : Map) (b : Book) (old new : Embedded)
         (result : Result Bool BatchFault) → Applies CLASSES text (begun_on old) (ended_on new) result
         → IsNoted old new → IsBatch text changes → old.noting.history.turn < 2 ^ 64 - 1 → IsDurable m b old
-        → WhereverStopped old new (λ image. OpensTo m b image
+        → WhereverStopped old.noting.history new.noting.text (λ image. OpensTo m b image
         ⊎ OpensWithin (batch_for old text changes) old image) }
     ensures finish { (changes : List Change) (m : Map) (b : Book) (old new : Embedded)
         (result : Result Bool BatchFault) → Finishes CLASSES (begun_on old) (ended_on new) result
         → IsNoted old new → IsBatch (kept_text (begun_on old)) changes
         → old.noting.history.turn < 2 ^ 64 - 1 → IsDurable m b old
-        → WhereverStopped old new (λ image. OpensTo m b image
+        → WhereverStopped old.noting.history new.noting.text (λ image. OpensTo m b image
         ⊎ OpensWithin (batch_kept old changes) old image) }
 {}

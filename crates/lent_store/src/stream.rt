@@ -12,8 +12,8 @@ ghost use Rattle.lent_store.specs.{Embedded.{disk_of}, Noted.{IsNotedOf}, Stream
 use crate::LentStore;
 use crate::dumped::Dumped;
 use crate::text::TextSource;
-use lent_disk::{FileView, LentDisk, Log, Room};
 use dump_stream::{DumpFault, dump_boxed};
+use lent_disk::{FileView, LentDisk, Log, Room};
 use load_stream::LoadFault;
 use reopen::{BoxedLoaded, OpenFault, load_state};
 use size_class::CLASSES;
