@@ -9,6 +9,7 @@ pub mod durable_laws;
 pub mod laws;
 mod reads;
 mod sliced;
+pub mod sliced_law;
 mod store;
 mod stream;
 mod text;
