@@ -14,8 +14,9 @@ use Rattle.store_answers.specs.Changes.{NothingChanged}
 use Rattle.store_answers.specs.Changing.{IsChange}
 use Rattle.store_answers.specs.Keeps.{KeepsNow}
 use Rattle.store_model.specs.Connection.{StoreValue}
+use Rattle.store_answers.specs.Upgrades.{Upgrades, idle_answer}
 use Rattle.store_model.specs.Quiet.{charges_of}
-use Rattle.lent_store.proofs.Cases.{by_cases, by_bool}
+use Rattle.lent_store.proofs.Cases.{by_cases, by_bool, by_option}
 
 module _ {classes : ℕ} {old new : StoreValue} {before now : disk.State} where
   pub change_mount : {c : Change} {result : Result Done Refusal}
@@ -39,3 +40,9 @@ module _ {classes : ℕ} {old new : StoreValue} {before now : disk.State} where
       → now.last_mount ≡ before.last_mount
   keep_mount refused kept = by_cases (refused_by old ask.keep) (λ h. (refused h).same_disk.stays.same_mount)
       (λ h. (kept h).frame.stays.same_mount)
+
+  pub upgrade_mount : {result : Result Done Refusal} → (IsSome (idle_answer old) → NothingChanged old new before now)
+      → (idle_answer old ≡ None → Upgrades classes old new before now result)
+      → now.last_mount ≡ before.last_mount
+  upgrade_mount idle upgrades = by_option (idle_answer old) (λ h. (idle h).same_disk.stays.same_mount)
+      (λ none. (upgrades none).frame.stays.same_mount)

@@ -19,12 +19,13 @@ use Rattle.store_answers.specs.Begins.{AnswersBegin, BeginsChange}
 use Rattle.store_answers.specs.Changes.{NothingChanged}
 use Rattle.store_answers.specs.Changing.{IsChange}
 use Rattle.store_answers.specs.Keeps.{KeepsNow}
+use Rattle.store_answers.specs.Upgrades.{Upgrades, idle_answer}
 use Rattle.store_model.specs.Connection.{RestsOnTable, SameOnTable, StoreValue, base_of}
 use Rattle.store_model.specs.Opened.{IsOpening, SameOnFound}
 use Rattle.store_model.specs.Quiet.{charges_of}
 use Rattle.lent_store.specs.Embedded.{Embedded, disk_of}
 use Rattle.lent_store.specs.Noted.{RestsOnKept}
-use Rattle.lent_store.proofs.Cases.{by_cases, by_bool, or_right}
+use Rattle.lent_store.proofs.Cases.{by_cases, by_bool, by_option, or_right}
 use Rattle.store_model.proofs.OpeningLaws.{alike_itself}
 
 pub opened_rests : (file : List ℕ) (room log_room : ℕ) (s : Embedded)
@@ -97,6 +98,17 @@ module _ {old new : StoreValue} {a d : disk.State} (told : IsTrue a.tells) where
           → RestsOnTable (base_of new) new.kept d
       by_result (Ok done) k = k.on_table told
       by_result (Err why) k = absurd (false≢true (sym whole ∙ ap (λ (s : StoreValue). s.is_broken) k.failed))
+
+  pub upgrade_rests : (result : Result Done Refusal) → (IsSome (idle_answer old) → NothingChanged old new a d)
+      → (idle_answer old ≡ None → Upgrades CLASSES old new a d result) → new.is_broken ≡ false
+      → RestsOnTable (base_of old) old.kept a → RestsOnTable (base_of new) new.kept d
+  upgrade_rests result idle upgrades whole rests = by_option (idle_answer old)
+      (λ h. refused_rests (idle h) rests) (λ none. by_result result (upgrades none))
+    where
+      by_result : (r : Result Done Refusal) → Upgrades CLASSES old new a d r
+          → RestsOnTable (base_of new) new.kept d
+      by_result (Ok done) u = u.on_table told
+      by_result (Err why) u = absurd (false≢true (sym whole ∙ ap (λ (s : StoreValue). s.is_broken) u.failed))
 
   -- a begin that leaves no flush in hand
   pub begin_rests : (c : Change) (result : Result Begun Refusal) → BeginsChange CLASSES c old new a d result

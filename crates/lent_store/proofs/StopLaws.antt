@@ -27,13 +27,15 @@ use Rattle.store_answers.specs.Changes.{NothingChanged}
 use Rattle.store_answers.specs.Changing.{IsChange}
 use Rattle.store_answers.specs.Keeps.{KeepsNow, OpensToKeptOrNow}
 use Rattle.store_answers.specs.Steps.{StepsHalf}
+use Rattle.store_answers.specs.Upgrades.{idle_answer}
 use Rattle.store_model.specs.Connection.{FlushInHand}
 use Rattle.store_model.specs.Halves.{IsHalfImage, Origin}
 use Rattle.store_model.specs.Opened.{IsFoundImage, IsOpening, LeavesRoom, SameOnFound}
 use Rattle.store_model.specs.Quiet.{charges_of}
 use Rattle.lent_store.specs.Embedded.{Embedded, disk_before, disk_of, file_in}
 use Rattle.lent_store.specs.Noted.{IsChangeImage, IsNoted, IsNotedOf, RestsOnKept, StopsAt, StopsFrom}
-use Rattle.lent_store.proofs.Cases.{by_cases, by_bool}
+use Rattle.lent_store.specs.Upgraded.{IsUpgradeImage, IsUpgraded}
+use Rattle.lent_store.proofs.Cases.{by_cases, by_bool, by_option}
 use Rattle.store_model.proofs.OpeningLaws.{alike_itself}
 
 -- by what the call left since it began
@@ -70,6 +72,13 @@ module _ (old new : Embedded) (noted : IsNoted old new) (low : old.noting.histor
       (λ image p. inl p) (refused h).same_disk.since)
       (λ h. stops _ (OpensToKeptOrNow CLASSES old.store (file_in old)) (λ image p. inr p)
       ((kept h).left refl rests))
+
+  pub stopped_upgrade : (result : Result Done Refusal) → IsUpgraded old new result → RestsOnKept old
+      → StopsAt old new (IsUpgradeImage old)
+  stopped_upgrade result is rests = by_option (idle_answer old.store)
+      (λ h. stops (MayLeave old.noting.history) (IsUpgradeImage old) (λ image p. inl p)
+      (is.idle h).same_disk.since)
+      (λ none. stops _ (IsUpgradeImage old) (λ image p. inr p) ((is.upgrades none).left refl rests))
 
   pub stopped_begin : (c : Change) (result : Result Begun Refusal)
       → BeginsChange CLASSES c old.store new.store (disk_before old) (disk_of new) result → RestsOnKept old

@@ -1,5 +1,5 @@
 -- What a store over a file in memory answers where it copies to memory of its caller.
-use Rattle.std.specs.Prelude.{◌≡◌, ◌<◌, ◌≤◌, ◌+◌, ℕ, nat_lt, if◌then◌else◌, List, length, take, Option, Some, None, Result, Ok, Err, IfOk, IsSome}
+use Rattle.std.specs.Prelude.{◌≡◌, ◌<◌, ◌≤◌, ◌+◌, ◌-◌, ℕ, nat_lt, min, if◌then◌else◌, List, length, take, drop, Option, Some, None, Result, Ok, Err, IfOk, OnErr, IsSome}
 use Rattle.std.specs.FinMap as fin
 use Rattle.byte_ranges.specs.Ranges.{bytes_at}
 use Rattle.size_class.specs.declared.TheConstants.{CLASSES}
@@ -7,7 +7,7 @@ use Rattle.map_model.specs.Requests as ask
 use Rattle.map_model.specs.Requests.{Request}
 use Rattle.store_answers.specs.declared.answers.Refusal.{Refusal}
 use Rattle.store_answers.specs.declared.answers.Refusal.TheVariants as why
-use Rattle.store_answers.specs.Answers.{listed_into, refused_by, size_at}
+use Rattle.store_answers.specs.Answers.{AnswersNumber, listed_into, refused_by, size_at}
 use Rattle.store_answers.specs.Readings.{is_damaged_read, object_read, spot_read}
 use Rattle.store_model.specs.Connection.{state_of}
 use Rattle.store_model.specs.Lines.{lines_of, listing_of}
@@ -61,4 +61,20 @@ pub record ListsInto (e : Embedded) (before out : List ℕ) (result : Result ℕ
       (length (lines_of (listing_of e.store.now))) (length before)
   pub lines : IfOk result (λ n. take n out ≡ lines_of (listing_of e.store.now))
   pub refused : IsSome (refused_by e.store ask.list) → out ≡ before
+  pub same_length : length out ≡ length before
+
+-- how many bytes of an object of a size are read from an offset on into so many
+abbrev pub part_size : ℕ → ℕ → ℕ → ℕ
+part_size size from room = min (size - from) room
+
+-- A part of an object was read into memory, or that was refused: at Ok its bytes stand in front, and those
+-- behind them stay.
+pub record ReadsPart (name : List ℕ) (from : ℕ) (e : Embedded) (before out : List ℕ) (result : Result ℕ Refusal)
+    : Type 0 where
+  pub answer : AnswersNumber (refused_by e.store (ask.get name))
+      (part_size (size_at (fin.get e.store.now name)) from (length before)) result
+  pub part : IfOk result (λ n. take n out
+      ≡ bytes_at (object_in (state_of e.store (file_in e)).map name) from n)
+  pub rest : IfOk result (λ n. drop n out ≡ drop n before)
+  pub refused : OnErr result (out ≡ before)
   pub same_length : length out ≡ length before

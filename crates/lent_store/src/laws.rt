@@ -9,7 +9,7 @@ ghost use Rattle.segment_layout.specs.Books.{Book};
 ghost use Rattle.table_rules.specs.Opening.{OpensBy};
 ghost use Rattle.store_answers.specs.{declared.answers.Begun.{Begun}, declared.answers.Done.{Done}, declared.answers.Progress.{Progress}, declared.answers.Refusal.{Refusal}, Answers.{refused_by}, Begins.{BeginsChange}, Changes.{NothingChanged}, Changing.{IsChange}, Keeps.{KeepsNow, OpensToKeptOrNow}, Steps.{IsStep}};
 ghost use Rattle.store_model.specs.{Connection.{FlushInHand}, Halves.{HalfAgrees, IsHalfImage, Origin}, Opened.{IsFoundImage, IsOpening, LeavesRoom}};
-ghost use Rattle.lent_store.specs.{Embedded.{Embedded, disk_before, disk_of, file_in}, Noted.{IsChangeImage, IsNoted, IsNotedOf, RestsOnKept, StopsAt, StopsFrom}};
+ghost use Rattle.lent_store.specs.{Embedded.{Embedded, disk_before, disk_of, file_in}, Noted.{IsChangeImage, IsNoted, IsNotedOf, RestsOnKept, StopsAt, StopsFrom}, Upgraded.{IsUpgradeImage, IsUpgraded}};
 
 /// Where the calls that a put or a removal noted are made in order on its file and that stops, before, within
 /// or after one of them, a crash leaves what it might have left before the call, or what opens to the last
@@ -29,6 +29,13 @@ pub fn a_stopped_keep_opens()
         → KeepsNow CLASSES old.store new.store (disk_before old) (disk_of new) result) → IsNoted old new
         → RestsOnKept old → old.noting.history.turn < 2 ^ 64 - 1
         → StopsAt old new (OpensToKeptOrNow CLASSES old.store (file_in old)) }
+{}
+
+/// The same of an upgrade: a crash leaves what opens to the last checkpoint, or to what stands with digests.
+pub fn a_stopped_upgrade_opens()
+    ensures { (old new : Embedded) (result : Result Done Refusal) → IsUpgraded old new result
+        → IsNoted old new → RestsOnKept old → old.noting.history.turn < 2 ^ 64 - 1
+        → StopsAt old new (IsUpgradeImage old) }
 {}
 
 /// The same of a flush one move at a time: of what begins it, and of each step where the disk rested as it
@@ -60,7 +67,7 @@ pub fn an_opened_store_rests()
         → IsOpening CLASSES (lent_state (lent file room log_room)) (disk_of s) (Ok s.store) → RestsOnKept s }
 {}
 
-/// It rests on it after each put, removal and keep by which it isn't broken, and after each begin of which no
+/// It rests on it after each put, removal, keep and upgrade by which it isn't broken, and after each begin of which no
 /// flush is in hand.
 pub fn a_store_goes_on_to_rest()
     ensures change { (c : Change) (old new : Embedded) (result : Result Done Refusal)
@@ -74,5 +81,7 @@ pub fn a_store_goes_on_to_rest()
         → NothingChanged old.store new.store (disk_before old) (disk_of new))
         → (IsNone (refused_by old.store ask.keep)
         → KeepsNow CLASSES old.store new.store (disk_before old) (disk_of new) result)
+        → new.store.is_broken ≡ false → RestsOnKept old → RestsOnKept new }
+    ensures upgrade { (old new : Embedded) (result : Result Done Refusal) → IsUpgraded old new result
         → new.store.is_broken ≡ false → RestsOnKept old → RestsOnKept new }
 {}
