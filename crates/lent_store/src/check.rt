@@ -1,8 +1,6 @@
 //! Whether a file in memory keeps the rules of the format.
 ghost use Rattle.std.specs.Prelude.{IfErr, OnOk};
-ghost use Rattle.size_class.specs.declared.TheConstants.{CLASSES};
-ghost use Rattle.reopen.specs.Refusals.{RefusesToOpen};
-ghost use Rattle.lent_store.specs.Sound.{IsSoundFile};
+ghost use Rattle.lent_store.specs.Sound.{IsSoundFile, RefusesFile};
 
 use crate::LentStore;
 use lent_disk::{FileView, Room};
@@ -14,7 +12,7 @@ use std::alloc::Global;
 /// for the table of the file, and given back. It never answers that the disk failed.
 pub fn check_file(alloc: Global, file: &Room) -> Result<(), OpenFault>
     ensures sound { OnOk result (IsSoundFile file.now.file) }
-    ensures refused { IfErr result (RefusesToOpen CLASSES file.now.file) }
+    ensures refused { IfErr result (RefusesFile file.now.file) }
 {
     let mut view = FileView::of(file);
     match load_state::<FileView, CLASSES>(alloc, &mut view) {
@@ -29,7 +27,7 @@ impl LentStore {
     /// The same of the file of a store, also while a flush is in hand, and of one that is broken.
     pub fn check(&self, alloc: Global) -> Result<(), OpenFault>
         ensures sound { OnOk result (IsSoundFile (file_in self.now)) }
-        ensures refused { IfErr result (RefusesToOpen CLASSES (file_in self.now)) }
+        ensures refused { IfErr result (RefusesFile (file_in self.now)) }
     {
         check_file(alloc, self.disk.room())
     }
