@@ -5,12 +5,12 @@
    is for the log. After a call, the log lists what the program must change in the file before its next call on the
    handle. costore_file.h and costore_file.c do that on a POSIX system. The order of the calls:
 
-       costore_new(file, length, log, &store.at);        lends the two regions
+       costore_new(file, length, log, &store);           lends the two regions
        costore_open(&store);                             the store in the file (or costore_format: a new one)
        costore_put(&store, name, n, object, m);          a change: also costore_del, costore_keep, ..
        costore_lengths(&store, &used, &length);          replay the first `used` bytes of log.at on the file; then the
                                                          next change
-       costore_close(&store); costore_free(store);       the regions are the program's again
+       costore_free(&store);                             the regions are the program's again
 
    Words used here:
 
@@ -36,8 +36,29 @@
 extern "C" {
 #endif
 
-/* A handle: one that has a file and no store yet, or one open store, or closed. One call at a time uses it. Only
-   costore_new writes `at`. */
+/* ---- version and limits ---- */
+
+/* The version of this header: 10,000 times its first number, 100 times its second, and its third. */
+#define COSTORE_VERSION "0.1.0"
+#define COSTORE_VERSION_NUMBER 100
+
+#define COSTORE_NAME_MOST 63         /* bytes of a name, which has at least one */
+#define COSTORE_OBJECT_MOST 67108864 /* bytes of an object */
+#define COSTORE_K_LEAST 2
+#define COSTORE_K_MOST 64
+#define COSTORE_NAMES_LEAST 16
+#define COSTORE_NAMES_MOST 65536
+#define COSTORE_LINE_MOST 85         /* bytes of a line of costore_list */
+#define COSTORE_FRONT 64             /* bytes at the start of a file that costore_shape_of reads */
+
+/* COSTORE_VERSION_NUMBER of the library that is linked. */
+uint32_t costore_version(void);
+
+/* ---- handles and answers ---- */
+
+/* A handle: one that has a file and no store yet, or one open store, or closed. Only costore_new and costore_free write
+   `at`. Calls that take a const handle change nothing, and many of them may use it at a time; any other call must be
+   the only one on its handle. */
 typedef struct costore {
     void *at;
 } costore;
@@ -57,10 +78,10 @@ enum {
     COSTORE_MISSING = -5,    /* no object has this name */
     COSTORE_FULL = -6,       /* as many names are live as there can be: NAMES, or 5 of 7 in a file with digests */
     COSTORE_WORN = -7,       /* the file was saved too often, 2^61 times */
-    COSTORE_DISK = -8,       /* the room or the log was too small: the store is broken, for reads too */
+    COSTORE_DISK = -8,       /* the log, or the room, was too small: the store is broken, for reads too */
     COSTORE_SHORT = -9,      /* the bytes don't fit where they are to go, or there are fewer than asked for */
     COSTORE_NO_MEMORY = -10, /* malloc gave no memory */
-    COSTORE_TOO_MANY = -11,  /* of an upgrade to digests, which this library doesn't have: no call answers it */
+    COSTORE_TOO_MANY = -11,  /* more names are live than a file with digests can have */
     COSTORE_DAMAGED = -12,   /* the object's bytes have another digest than those that were put */
     COSTORE_BUSY = -13,      /* a flush is in hand, and this call must wait for its end */
     COSTORE_IDLE = -14,      /* no flush is in hand */
@@ -71,17 +92,36 @@ enum {
     COSTORE_UNFIT = -19,     /* the batch removes a name that isn't there, or leaves no room for the name !batch */
     COSTORE_NO_BATCH = -20,  /* the object COSTORE_BATCH is not a batch */
     COSTORE_PENDING = -21,   /* the file keeps an unfinished batch: costore_finish comes first */
-    COSTORE_MORE_NAMES = -22 /* the dump has more objects than the store is to have names */
+    COSTORE_MORE_NAMES = -22,/* the dump has more objects than the store is to have names */
+    COSTORE_NO_ROOM = -23    /* the room is too small for so many bytes of objects */
 };
+
+/* A word for an answer, without blanks, which stays the same: "missing", "no-room". For an answer that this library
+   doesn't give, also those of costore_file.h, it is "other". It is never null. */
+const char *costore_word(int32_t code);
 
 /* ---- opening and closing ---- */
 
+/* What the first bytes of a file say: K and NAMES as of costore_format, and how many bytes stand before the objects.
+   The file has at least so many. */
+typedef struct costore_shape {
+    uint64_t k, names, head;
+} costore_shape;
+
+/* Reads the first n bytes of a file, of which COSTORE_FRONT are enough. It needs no handle and no memory: so a program
+   knows before it takes any whether the file is a store, and what costore_need wants to know.
+
+   COSTORE_DONE; COSTORE_SHORT (n is less than COSTORE_FRONT) and COSTORE_NO_STORE, and nothing is written. The rest of
+   the file can still be damaged: costore_open and costore_check read it. */
+int32_t costore_shape_of(const uint8_t *front, size_t n, costore_shape *shape);
+
 /* Computes how large the two regions of costore_new must be.
 
-   k, names: as of costore_format. An existing file has k at byte 8 and names at byte 16, 8 bytes each, least first.
+   k, names: as of costore_format; costore_shape_of reads them in an existing file.
    volume:   the most bytes that all objects have together, below 2^48.
-   largest:  the most bytes that one object has, at most 67,108,864.
-   room:     written: the bytes for the file.
+   largest:  the most bytes that one object has, at most COSTORE_OBJECT_MOST.
+   room:     written: the bytes for the file. With so many no change of objects within these bounds answers
+             COSTORE_NO_ROOM.
    log:      written: the bytes for the log of a put or a removal that moves nothing, a begin, a step or a keep. A whole
              flush can need more, and so can a batch, a load, and the opening of a file that was interrupted within a
              flush.
@@ -95,8 +135,8 @@ typedef struct costore_region {
     size_t n;
 } costore_region;
 
-/* Makes a handle over two regions, and writes its pointer, to be the field of a costore. It touches neither region.
-   Until the handle is closed or freed nothing but the library writes there.
+/* Makes a handle over two regions, and writes it to *store. It touches neither region. Until the handle is closed or
+   freed nothing but the library writes there.
 
    file:   its first `length` bytes are those of the file on the device, all of which was synced. Its other bytes can be
            anything. The file can have file.n bytes. Between two calls, once the log is replayed, the program can put
@@ -107,7 +147,7 @@ typedef struct costore_region {
            them there until the next call.
 
    COSTORE_DONE; COSTORE_BAD_NUMBER (length exceeds file.n) and COSTORE_NO_MEMORY, and nothing is written. */
-int32_t costore_new(costore_region file, uint64_t length, costore_region log, void **at);
+int32_t costore_new(costore_region file, uint64_t length, costore_region log, costore *store);
 
 /* Opens the store in the file. It reads the head of the file: the table of the names, and no object. A file that is
    longer than its layout is cut. If the file was interrupted within a flush, this finishes the flush. The log has all
@@ -144,8 +184,26 @@ int32_t costore_load(costore *store, const uint8_t *text, size_t n, uint64_t k, 
    COSTORE_DONE; COSTORE_CLOSED. */
 int32_t costore_close(costore *store);
 
-/* Gives the handle back, with what it still holds. It can't be used again. */
-void costore_free(costore store);
+/* Gives the handle back, with what it still holds: a store that is open is closed first. It sets store->at to null, and
+   does nothing if that is null already. The handle, and no copy of it, can be used again. */
+void costore_free(costore *store);
+
+/* What shows that a file is no store: the numbers of the program's fault lines.
+
+   kind 1: `slot NUMBER`, a fault of the two slots of the table.
+   kind 2: `codec NUMBER at AT`, a fault of the bytes at a position of the file.
+   kind 3: `rule NUMBER at AT`, a rule of the format that the table breaks, and where.
+
+   USE.md and FORMAT.md have them. */
+typedef struct costore_fault {
+    uint64_t kind, number, at;
+} costore_fault;
+
+/* Checks that the file of a handle keeps all rules of the format, also before costore_open and while a flush is in
+   hand. It reads the table of the names and no object, and takes memory for it meanwhile.
+
+   COSTORE_DONE; COSTORE_CLOSED; COSTORE_NO_STORE (*fault is written: what shows it first); COSTORE_NO_MEMORY. */
+int32_t costore_check(const costore *store, costore_fault *fault);
 
 /* ---- changes ----
 
@@ -161,14 +219,14 @@ void costore_free(costore store);
    that is half done: changes that must be seen together are a batch (costore_batch).
 
    COSTORE_DONE; COSTORE_KEPT; COSTORE_BUSY; COSTORE_BROKEN; COSTORE_BAD_NAME; COSTORE_TOO_LONG; COSTORE_FULL;
-   COSTORE_WORN; COSTORE_DISK. */
+   COSTORE_WORN; COSTORE_NO_ROOM (nothing was changed: lend a larger region, or remove objects); COSTORE_DISK. */
 int32_t costore_put(costore *store, const uint8_t *name, size_t n, const uint8_t *object, size_t m);
 
 /* Removes a name of n bytes. It too can flush and save checkpoints, since the gap that the object leaves is charged to
    buffers; it then answers COSTORE_KEPT.
 
    COSTORE_DONE; COSTORE_KEPT; COSTORE_BUSY; COSTORE_BROKEN; COSTORE_BAD_NAME; COSTORE_MISSING; COSTORE_WORN;
-   COSTORE_DISK. */
+   COSTORE_NO_ROOM (only of a store that was opened with less room than it needs); COSTORE_DISK. */
 int32_t costore_del(costore *store, const uint8_t *name, size_t n);
 
 /* Saves a checkpoint of the present state. It writes 80 bytes for each live name (112 with digests) and syncs three
@@ -176,6 +234,14 @@ int32_t costore_del(costore *store, const uint8_t *name, size_t n);
 
    COSTORE_KEPT; COSTORE_BUSY; COSTORE_BROKEN; COSTORE_WORN; COSTORE_DISK. */
 int32_t costore_keep(costore *store);
+
+/* Gives each object a digest, the SHA-256 of its bytes, which reads compare from then on: it reads all objects, and
+   saves a checkpoint of version 2 of the present state. In a file of version 2 5 of 7 of the NAMES can be live.
+
+   COSTORE_KEPT; COSTORE_DONE (the file has digests already); COSTORE_BUSY; COSTORE_BROKEN; COSTORE_TOO_MANY;
+   COSTORE_WORN; COSTORE_DISK. If you crash while replaying the log, the file opens to the last checkpoint, or to the
+   present state with digests. */
+int32_t costore_upgrade(costore *store);
 
 /* Goes back to the last checkpoint. It undoes only the changes since the last *saved* checkpoint, which can be one that
    a flush saved after costore_keep. It logs nothing: the log is still that of the call before; don't replay it again.
@@ -231,38 +297,55 @@ int32_t costore_begin_del(costore *store, const uint8_t *name, size_t n);
 int32_t costore_step(costore *store);
 
 /* Whether a flush is in hand; false also where the handle has no open store. */
-bool costore_in_hand(costore *store);
+bool costore_in_hand(const costore *store);
 
 /* ---- reads ----
 
-   These change nothing and log nothing. Where they refuse they write nothing, except as said. */
+   These change nothing and log nothing, and many of them may run at a time on one handle, while no other call does.
+   Where they refuse they write nothing, except as said. */
 
 /* Writes how many bytes the object of a name has.
 
    COSTORE_DONE; COSTORE_BROKEN; COSTORE_BAD_NAME; COSTORE_MISSING. */
-int32_t costore_size(costore *store, const uint8_t *name, size_t n, uint64_t *size);
+int32_t costore_size(const costore *store, const uint8_t *name, size_t n, uint64_t *size);
 
 /* Writes where in the file the object of a name begins, in bytes from the file's start, and how many bytes it has. It
-   is there until the next changing call (a put, a removal, a keep, a back, a batch, a begin, a step); on the device it
-   is there once the log is replayed. To read a part of an object, call costore_file with this position plus the offset:
-   its digest isn't compared then.
+   is there until the next changing call (a put, a removal, a keep, an upgrade, a back, a batch, a begin or a step); on
+   the device it is there once the log is replayed. The file's region has its bytes too: so it can be read without a
+   copy, from file.at + *at on. Its digest isn't compared then.
 
    COSTORE_DONE; COSTORE_BROKEN; COSTORE_BAD_NAME; COSTORE_MISSING. */
-int32_t costore_position(costore *store, const uint8_t *name, size_t n, uint64_t *at, uint64_t *size);
+int32_t costore_position(const costore *store, const uint8_t *name, size_t n, uint64_t *at, uint64_t *size);
 
 /* Copies the object of a name to the start of `out`, which has m bytes, and writes its size. costore_old does so for
    the object that the name had at the last checkpoint.
 
    COSTORE_DONE; COSTORE_BROKEN; COSTORE_BAD_NAME; COSTORE_MISSING; COSTORE_SHORT (exactly where m is less than its
    size); COSTORE_DAMAGED (`out` can then have bytes of it). costore_old also: COSTORE_BUSY. */
-int32_t costore_get(costore *store, const uint8_t *name, size_t n, uint8_t *out, size_t m, uint64_t *size);
-int32_t costore_old(costore *store, const uint8_t *name, size_t n, uint8_t *out, size_t m, uint64_t *size);
+int32_t costore_get(const costore *store, const uint8_t *name, size_t n, uint8_t *out, size_t m, uint64_t *size);
+int32_t costore_old(const costore *store, const uint8_t *name, size_t n, uint8_t *out, size_t m, uint64_t *size);
+
+/* Copies bytes of the object of a name to the start of `out`, from an offset on, and writes how many: as many as there
+   are from there on, but at most m. Past the object's end they are none. Its digest isn't compared: costore_get does
+   that.
+
+   COSTORE_DONE; COSTORE_BROKEN; COSTORE_BAD_NAME; COSTORE_MISSING. */
+int32_t costore_read(const costore *store, const uint8_t *name, size_t n, uint64_t from, uint8_t *out, size_t m,
+                     uint64_t *size);
+
+/* Copies the first name that is greater than n bytes, in byte order, to the start of `out`, and writes how many bytes
+   it has, and how many its object. With n = 0 that is the first name, with a name it is the one after it. The n bytes
+   need not be a name. COSTORE_NAME_MOST bytes at `out` are enough.
+
+   COSTORE_DONE; COSTORE_BROKEN; COSTORE_MISSING (no name is greater); COSTORE_SHORT (m is less than its length). */
+int32_t costore_next(const costore *store, const uint8_t *above, size_t n, uint8_t *out, size_t m, uint64_t *length,
+                     uint64_t *size);
 
 /* Copies a line for each name, sorted by name, to the start of `out`, and writes how many bytes they have. A line is
    the name, a space, the size of its object in decimal, and a newline; 85 bytes for each name suffice.
 
    COSTORE_DONE; COSTORE_BROKEN; COSTORE_SHORT (exactly where the lines don't fit; `out` then has other bytes). */
-int32_t costore_list(costore *store, uint8_t *out, size_t m, uint64_t *size);
+int32_t costore_list(const costore *store, uint8_t *out, size_t m, uint64_t *size);
 
 /* How many names there are and how many bytes their objects have together, now and at the last checkpoint. */
 typedef struct costore_counts {
@@ -270,14 +353,31 @@ typedef struct costore_counts {
 } costore_counts;
 
 /* COSTORE_DONE; COSTORE_BUSY; COSTORE_BROKEN. */
-int32_t costore_stat(costore *store, costore_counts *counts);
+int32_t costore_stat(const costore *store, costore_counts *counts);
+
+/* What a store is, what it has, and what it can have. */
+typedef struct costore_facts {
+    uint64_t version;          /* of the file: 1, or 2, which has digests */
+    uint64_t k, names;         /* as of costore_format */
+    uint64_t names_most;       /* how many names can be live: NAMES, or 5 of 7 with digests */
+    uint64_t live, bytes;      /* how many names are, and how many bytes their objects have together */
+    uint64_t kept, kept_bytes; /* the same at the last checkpoint */
+    uint64_t sequence;         /* of the last checkpoint */
+    uint64_t file, room;       /* how many bytes the file has, and how many it can have */
+    uint64_t moves_left;       /* how many steps of the flush in hand are left at most; 0 if none is in hand */
+} costore_facts;
+
+/* Writes them, also while a flush is in hand.
+
+   COSTORE_DONE; COSTORE_BROKEN. */
+int32_t costore_info(const costore *store, costore_facts *facts);
 
 /* Copies the dump of the last checkpoint to the start of `out`, and writes how many bytes it has. 512 bytes, those of
    all its objects (kept_bytes of costore_stat) and 78 for each of its names suffice. During the call it takes memory
    for the table of the file, and as much as `out` has.
 
    COSTORE_DONE; COSTORE_BUSY; COSTORE_BROKEN; COSTORE_SHORT; COSTORE_DAMAGED (an object is); COSTORE_NO_MEMORY. */
-int32_t costore_dump(costore *store, uint8_t *out, size_t m, uint64_t *size);
+int32_t costore_dump(const costore *store, uint8_t *out, size_t m, uint64_t *size);
 
 /* ---- the log ----
 
@@ -290,7 +390,7 @@ int32_t costore_dump(costore *store, uint8_t *out, size_t m, uint64_t *size);
 /* Writes how many bytes the log of the last changing call has, and how many the file.
 
    COSTORE_DONE. */
-int32_t costore_lengths(costore *store, uint64_t *log, uint64_t *file);
+int32_t costore_lengths(const costore *store, uint64_t *log, uint64_t *file);
 
 /* Copy m bytes, from position `at` on, of the log, or of the file as it is once the log is replayed.
 
@@ -298,8 +398,8 @@ int32_t costore_lengths(costore *store, uint64_t *log, uint64_t *file);
    region can have other bytes; costore_file copies the zeros.
 
    COSTORE_DONE; COSTORE_SHORT (there are fewer; nothing is written). */
-int32_t costore_log(costore *store, uint64_t at, uint8_t *out, size_t m);
-int32_t costore_file(costore *store, uint64_t at, uint8_t *out, size_t m);
+int32_t costore_log(const costore *store, uint64_t at, uint8_t *out, size_t m);
+int32_t costore_file(const costore *store, uint64_t at, uint8_t *out, size_t m);
 
 #ifdef __cplusplus
 }

@@ -130,8 +130,8 @@ pub extern "C" fn costore_close(store: &mut Handle) -> i32
     }
 }
 
-/// Gives the handle back.
+/// Gives the handle back. `costore_free` of costore.h calls it, and takes the pointer out of the handle.
 #[unsafe(no_mangle)]
-pub extern "C" fn costore_free(store: Handle) {
+pub extern "C" fn costore_end(store: Handle) {
     let _ = store.into_erased().into_box();
 }
