@@ -1,10 +1,11 @@
 -- What opening and closing do to what a handle holds.
-use Rattle.std.specs.Prelude.{◌≡◌, ◌<◌, ℤ, ℕ, List, length, pos, Ok}
+use Rattle.std.specs.Prelude.{◌≡◌, ◌<◌, ◌≤◌, ℤ, ℕ, List, length, pos, Ok}
 use Rattle.size_class.specs.declared.TheConstants.{CLASSES}
 use Rattle.lent_disk.specs.Disks.{lent_state}
 use Rattle.lent_disk.specs.Notings.{lent}
 use Rattle.lent_disk.specs.Rooms.{Filing, Logging}
 use Rattle.slot_codec.specs.Readable.{IsSuperBlock}
+use Rattle.slot_codec.specs.Spelling.{head_len}
 use Rattle.slot_pair.specs.Formats.{block_for}
 use Rattle.reopen.specs.Refusals.{RefusesToOpen}
 use Rattle.reopen.specs.declared.fault.OpenFault.{OpenFault}
@@ -14,7 +15,7 @@ use Rattle.lent_store.specs.Made.{IsMade, NotMade}
 use Rattle.lent_store.specs.Noted.{IsNotedOf}
 use Rattle.store_handle.specs.declared.Stage.{Stage}
 use Rattle.store_handle.specs.declared.Stage.TheVariants as stage
-use Rattle.costore_c.specs.Answers.{bad_number_code, closed_code, not_new_code, opening_code}
+use Rattle.costore_c.specs.Answers.{bad_number_code, closed_code, no_room_code, not_new_code, opening_code}
 
 -- a file of so many bytes doesn't fit its region
 abbrev pub IsTooLong : ℕ → List ℕ → Type 0
@@ -42,11 +43,13 @@ IsMadeOf k names (stage.Open s) code = (code ≡ pos 0) × IsMade k names s
 IsMadeOf k names stage.Closed code = (why : OpenFault) × (code ≡ opening_code why) × NotMade why
 IsMadeOf k names (stage.Lent r l) code = ⊥
 
--- so of a file without bytes; any other handle stays
+-- so of a file without bytes whose head fits its room; any other handle stays
 abbrev pub MakesLent : ℕ → ℕ → Stage → Stage → ℤ → Type 0
 MakesLent k names (stage.Lent room log) now code =
-    (length room.file ≡ 0 → IsMadeOf k names now code)
-    × (0 < length room.file → (now ≡ stage.Lent room log) × (code ≡ not_new_code))
+    (0 < length room.file → (now ≡ stage.Lent room log) × (code ≡ not_new_code))
+    × (length room.file ≡ 0 → room.most < head_len names
+    → (now ≡ stage.Lent room log) × (code ≡ no_room_code))
+    × (length room.file ≡ 0 → head_len names ≤ room.most → IsMadeOf k names now code)
 MakesLent k names stage.Closed now code = (now ≡ stage.Closed) × (code ≡ not_new_code)
 MakesLent k names (stage.Open s) now code = (now ≡ stage.Open s) × (code ≡ not_new_code)
 

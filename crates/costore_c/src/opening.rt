@@ -6,10 +6,11 @@ ghost use Rattle.costore_c.specs.Answers.{bad_number_code, no_memory_code};
 ghost use Rattle.costore_c.specs.Openings.{Closes, Formats, IsOpenOf, IsTooLong, MakesLent, OpensLent};
 ghost use Rattle.store_handle.specs.declared.Stage.TheVariants as Stage;
 
-use crate::codes::{BAD_NUMBER, CLOSED, DONE, NO_MEMORY, NOT_NEW, of_opening};
+use crate::codes::{BAD_NUMBER, CLOSED, DONE, NO_MEMORY, NO_ROOM, NOT_NEW, of_opening};
 use lent_disk::{Log, Room};
 use lent_region::Region;
 use lent_store::LentStore;
+use slot_codec::head_len;
 use std::alloc::Global;
 use std::mem;
 use store_handle::{Erased, Handle, Held, Stage};
@@ -79,7 +80,7 @@ fn open_lent(alloc: Global, room: Room, log: Log, stage: &mut Stage) -> i32
 }
 
 /// Makes a store with no names of an empty file, and opens it. Where it answers that there is no memory, or
-/// that the room or the log is too small, the handle is closed; at any other refusal it stays.
+/// that the log is too small, the handle is closed; at any other refusal it stays.
 #[unsafe(no_mangle)]
 pub extern "C" fn costore_format(alloc: Global, store: &mut Handle, k: u64, names: u64) -> i32
     ensures { Formats k names store.old.value.stage store.new.value.stage result }
@@ -105,6 +106,10 @@ fn make_lent(alloc: Global, room: Room, log: Log, k: u64, names: u64, stage: &mu
     if room.end() != 0 {
         *stage = Stage::Lent(room, log);
         return NOT_NEW;
+    }
+    if (room.most() as u64) < head_len(names) {
+        *stage = Stage::Lent(room, log);
+        return NO_ROOM;
     }
     match LentStore::format(alloc, room, log, k, names) {
         Ok(open) => {

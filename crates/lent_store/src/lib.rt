@@ -7,9 +7,11 @@ mod change;
 mod check;
 mod dumped;
 pub mod durable_laws;
+mod facts;
 pub mod laws;
 mod parts;
 mod reads;
+mod room;
 mod sliced;
 pub mod sliced_law;
 mod store;
@@ -18,5 +20,6 @@ mod text;
 mod upgrade;
 
 pub use check::check_file;
+pub use room::{room_need, width_of};
 pub use store::LentStore;
 pub use stream::DumpStop;
