@@ -47,7 +47,7 @@ impl Model for Handle {
 
 impl Handle {
     ghost use Rattle.std.specs.Borrow.{sem};
-    ghost use Rattle.store_handle.specs.Lending.{LendsHeld};
+    ghost use Rattle.store_handle.specs.Lending.{LendsHeld, with_value};
 
     /// Takes the pointer.
     pub fn of(e: Erased<Held, Global>) -> Handle
@@ -83,6 +83,7 @@ impl Handle {
     pub fn held(&mut self) -> &mut Held
         ensures* writes_back { sem 𝓛 (LendsHeld self.entry result) }
         ensures value { result.now ≡ self.old.value }
+        ensures unchanged { with_value self.old result.now ≡ self.old }
     {
         unsafe { &mut *(self.ptr as *mut Held) }
     }
