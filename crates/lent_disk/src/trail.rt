@@ -4,7 +4,7 @@ ghost use Rattle.std.specs.Borrow.{ftrue};
 ghost use Rattle.disk_history.specs.{Changes.RecordedCall.{Wrote, Sized, Synced}, Histories.{History, done, fresh, undone}};
 ghost use Rattle.lent_disk.specs.Trails.{trail_after};
 
-use std::marker::{Model, PhantomData};
+use std::marker::{Model, PhantomData, Send};
 
 /// A history. It has no bytes.
 #[derive(Drop)]
@@ -16,6 +16,9 @@ pub struct Trail {
 impl Model for Trail {
     ghost also_owns = { λ _. ftrue };
 }
+
+// It owns nothing, so it may go to another thread.
+unsafe impl Send for Trail {}
 
 impl Trail {
     /// The history of an empty file.

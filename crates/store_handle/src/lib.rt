@@ -10,11 +10,10 @@ ghost use Rattle.store_handle.specs.contracts.Held.{the_row as held};
 mod erased;
 
 pub use erased::{Erased, Opaque};
-
 use lent_disk::{Log, Room};
 use lent_store::LentStore;
 use std::alloc::Global;
-use std::marker::Model;
+use std::marker::{Model, Send};
 
 /// How far a handle has come.
 #[derive(Drop)]
@@ -44,6 +43,9 @@ pub struct Handle {
 impl Model for Handle {
     ghost also_owns = { λ h. box_owns (ghosts.dealloc_token h.alloc) held h.ptr h.value };
 }
+
+// What it holds may go to another thread, and so may it.
+unsafe impl Send for Handle {}
 
 impl Handle {
     ghost use Rattle.std.specs.Borrow.{sem};
