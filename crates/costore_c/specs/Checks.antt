@@ -57,10 +57,8 @@ pub record Checks (file : List ℕ) (before now : Fault) (code : ℤ) : Type 0 w
   pub refused : IfErr answer (RefusesFile file)
   pub fault : now ≡ told_fault answer before
 
--- so that of a handle; nothing changes
-abbrev pub ChecksFile : Stage → Stage → Fault → Fault → ℤ → Type 0
-ChecksFile (stage.Open s) now before after code = Checks (file_in s) before after code × (now ≡ stage.Open s)
-ChecksFile (stage.Lent room log) now before after code =
-    Checks room.file before after code × (now ≡ stage.Lent room log)
-ChecksFile stage.Closed now before after code =
-    (code ≡ closed_code) × (after ≡ before) × (now ≡ stage.Closed)
+-- so that of a handle
+abbrev pub ChecksFile : Stage → Fault → Fault → ℤ → Type 0
+ChecksFile (stage.Open e) before now code = Checks (file_in e) before now code
+ChecksFile (stage.Lent room log) before now code = Checks room.file before now code
+ChecksFile stage.Closed before now code = (code ≡ closed_code) × (now ≡ before)

@@ -31,10 +31,9 @@ info_of e =
     }
 
 -- it was told; a broken store tells nothing
-pub record Informs (before now : Info) (old new : Embedded) (code : ℤ) : Type 0 where
-  pub broken : old.store.is_broken ≡ true → (code ≡ refusal_code why.Broken) × (now ≡ before)
-  pub told : old.store.is_broken ≡ false → (code ≡ pos 0) × (now ≡ info_of old)
-  pub same : new ≡ old
+pub record Informs (before now : Info) (e : Embedded) (code : ℤ) : Type 0 where
+  pub broken : e.store.is_broken ≡ true → (code ≡ refusal_code why.Broken) × (now ≡ before)
+  pub told : e.store.is_broken ≡ false → (code ≡ pos 0) × (now ≡ info_of e)
 
 -- memory of a caller: bytes, and two numbers
 pub record Named : Type 0 where
@@ -59,8 +58,7 @@ PassesNext (Ok (Some e)) before now code = Passes e.0 e.1 before now code
 PassesNext (Ok None) before now code = (code ≡ refusal_code why.Missing) × (now ≡ before)
 PassesNext (Err refused) before now code = (code ≡ refusal_code refused) × (now ≡ before)
 
--- that of a store; nothing changes
-pub record Names (above : List ℕ) (before now : Named) (old new : Embedded) (code : ℤ) : Type 0 where
-  pub next : PassesNext (next_answer (refused_by old.store ask.list)
-      (first_above above (listing_of old.store.now))) before now code
-  pub same : new ≡ old
+-- that of a store
+abbrev pub Names : List ℕ → Named → Named → Embedded → ℤ → Type 0
+Names above before now e code = PassesNext (next_answer (refused_by e.store ask.list)
+    (first_above above (listing_of e.store.now))) before now code

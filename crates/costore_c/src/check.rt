@@ -25,7 +25,8 @@ pub struct Fault {
 /// first is written.
 #[unsafe(no_mangle)]
 pub extern "C" fn costore_check(alloc: Global, store: &mut Handle, fault: &mut Fault) -> i32
-    ensures { ChecksFile store.old.value.stage store.new.value.stage fault.old fault.new result }
+    ensures read { ChecksFile store.old.value.stage fault.old fault.new result }
+    ensures frame { store.new ≡ store.old }
 {
     match &store.held().stage {
         Stage::Closed => CLOSED,

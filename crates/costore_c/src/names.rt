@@ -27,8 +27,9 @@ pub struct Info {
 /// Writes what there is to tell of a store, also while a flush is in hand. At a refusal nothing is written.
 #[unsafe(no_mangle)]
 pub extern "C" fn costore_info(store: &mut Handle, info: &mut Info) -> i32
-    ensures { OnOpenElse (info.new ≡ info.old) (Informs info.old info.new) store.old.value.stage
-        store.new.value.stage result }
+    ensures read { OnOpenElse (info.new ≡ info.old) (Informs info.old info.new) store.old.value.stage
+        result }
+    ensures frame { store.new ≡ store.old }
 {
     match &store.held().stage {
         Stage::Open(open) => inform(open, info),
@@ -46,9 +47,10 @@ pub extern "C" fn costore_next(
     length: &mut u64,
     size: &mut u64,
 ) -> i32
-    ensures { OnOpenElse (named out.new length.new size.new ≡ named out.old length.old size.old)
+    ensures read { OnOpenElse (named out.new length.new size.new ≡ named out.old length.old size.old)
         (Names above.now (named out.old length.old size.old) (named out.new length.new size.new))
-        store.old.value.stage store.new.value.stage result }
+        store.old.value.stage result }
+    ensures frame { store.new ≡ store.old }
 {
     match &store.held().stage {
         Stage::Open(open) => next(open, above, out, length, size),
@@ -58,7 +60,7 @@ pub extern "C" fn costore_next(
 
 /// What there is to tell of what is open.
 fn inform(open: &LentStore, info: &mut Info) -> i32
-    ensures { Informs info.old info.new open.now open.now result }
+    ensures { Informs info.old info.new open.now result }
 {
     if open.is_broken() {
         return BROKEN;
@@ -90,7 +92,7 @@ fn next(
     size: &mut u64,
 ) -> i32
     ensures { Names above.now (named out.old length.old size.old) (named out.new length.new size.new) open.now
-        open.now result }
+        result }
 {
     match open.next_above(above) {
         Ok(Some((name, bytes))) => pass(name.as_bytes(), bytes, out, length, size),

@@ -16,9 +16,10 @@ pub extern "C" fn costore_read(
     out: &mut [u8],
     size: &mut u64,
 ) -> i32
-    ensures { OnOpenElse (memory out.new size.new ≡ memory out.old size.old)
+    ensures read { OnOpenElse (memory out.new size.new ≡ memory out.old size.old)
         (ReadsSome name.now from (memory out.old size.old) (memory out.new size.new))
-        store.old.value.stage store.new.value.stage result }
+        store.old.value.stage result }
+    ensures frame { store.new ≡ store.old }
 {
     match &store.held().stage {
         Stage::Open(open) => of_number(open.read_part(name, from, out), size),
