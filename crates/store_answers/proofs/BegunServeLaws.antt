@@ -1,6 +1,7 @@
 -- A change whose flush is begun, as contracts see the store.
-use Rattle.std.specs.Prelude.{◌≡◌, ℕ, ◌+◌, ◌≤◌, ◌<◌, ◌^◌, Bool, true, false, ◌||◌, List, Option, Some, None, option_map, Result, Ok, Err, IfSome, IsTrue, refl}
+use Rattle.std.specs.Prelude.{◌≡◌, ℕ, ◌+◌, ◌*◌, ◌≤◌, ◌<◌, ◌^◌, Bool, true, false, ◌||◌, List, Option, Some, None, option_map, Result, Ok, Err, IfSome, IsTrue, refl}
 use Rattle.std.proofs.Common.{ap, arith, sym, ◌∙◌, subst, inl, inr}
+use Rattle.std.specs.FinMap as fin
 use Rattle.disk_face.specs.Counts.{HasCause}
 use Rattle.disk_face.specs.States as disk
 use Rattle.disk_face.specs.Writes.{KeepsDisk}
@@ -143,6 +144,7 @@ module _ {C : ℕ} (s : Inside C) (t : StoreValue) (is : kept_of s ≡ t) (whole
     (made : IsBegun C (parts_of s.hands) c (parts_of hands1) (phase_now v.course hands1.table) place)
     (object : bytes_of c ≡ bytes) (began : Began C) (at : began.sequence ≡ s.hands.slots.sequence)
     (row : cells_of began.moved ≡ cells_of s.hands.ledger.moved)
+    (many : began.left ≡ 2 * fin.len hands1.table.now + 1)
     (needs_flush : is_quiet (charges_of t c) ≡ false) (d : disk.State)
     (left : (x : HandsValue) (e : Change) (g : BeforeChange)
     → CanMakeFlush C x e g (parts_of hands1) (lift_start (phase_now v.course hands1.table) place) bytes a
@@ -169,12 +171,13 @@ module _ {C : ℕ} (s : Inside C) (t : StoreValue) (is : kept_of s ≡ t) (whole
 
   abbrev new : StoreValue
   new = held s whole unbroken c can.named fresh a over_here hands1 v place bytes made object began at row
+      many
 
   -- the flush may go on
   pub begin_going : KeepsLifting C v (items_now v.course hands1.table)
       → IsGoing began (record s { hands = hands1 }) (phases.Lift v)
   begin_going keeps = begun_going s whole unbroken c can.named fresh a over_here hands1 v place bytes made
-      object began at row keeps
+      object began at row many keeps
 
   -- it failed
   pub begin_failed : {E : Type 0} (fault : E) → HasCause {T = Unit {0}} a.faults d.faults (Err fault)
@@ -187,9 +190,9 @@ module _ {C : ℕ} (s : Inside C) (t : StoreValue) (is : kept_of s ≡ t) (whole
           holds = tt;
           half = λ told rests given h none. absurd (cc);
           content = λ told. begun_content s whole unbroken c can.named fresh a over_here hands1 v place bytes
-              made object began at row told d left;
+              made object began at row many told d left;
           left = λ told. begun_left s whole unbroken c can.named fresh a over_here hands1 v place bytes made
-              object began at row told d left;
+              object began at row many told d left;
           moved = ap (λ (y : HandsValue). y.moved) made.rest;
           pair = ap (λ (y : HandsValue). y.in_use) made.rest;
           calls = most;
@@ -209,9 +212,9 @@ module _ {C : ℕ} (s : Inside C) (t : StoreValue) (is : kept_of s ≡ t) (whole
     half_at : IsTrue a.tells → (rests : Bool) → (IsTrue rests → RestsOnTable (base_of (kept_of s))
         (kept_of s).kept a) → HalfAgrees C new hand (origin_of (kept_of s) c a.file rests) d
     half_at told rests given = begun_half s whole unbroken c can.named fresh a over_here hands1 v place bytes
-        made object began at row told rests given d (flies (parts_of s.hands) c _
+        made object began at row many told rests given d (flies (parts_of s.hands) c _
         (begun_can s whole unbroken c can.named fresh a over_here hands1 v place bytes made object began at
-        row told rests given) told)
+        row many told rests given) told)
 
     pub begin_done : {E : Type 0} → HasCause {T = Unit {0}} {E = E} a.faults d.faults (Ok tt)
         → BeginsServed C c t new a d (Ok begun.InHand)
@@ -222,16 +225,16 @@ module _ {C : ℕ} (s : Inside C) (t : StoreValue) (is : kept_of s ≡ t) (whole
         holds = (
           hand,
           begun_holds s whole unbroken c can.named fresh a over_here hands1 v place bytes made object began
-              at row,
+              at row many,
         );
         half = λ told rests given h one.
             let same : hand ≡ h = (cc) in
             subst (λ x. HalfAgrees C new x (origin_of (kept_of s) c a.file rests) d) same
             (half_at told rests given);
         content = λ told. begun_content s whole unbroken c can.named fresh a over_here hands1 v place bytes
-            made object began at row told d left;
+            made object began at row many told d left;
         left = λ told. begun_left s whole unbroken c can.named fresh a over_here hands1 v place bytes made
-            object began at row told d left;
+            object began at row many told d left;
         moved = ap (λ (y : HandsValue). y.moved) made.rest;
         pair = ap (λ (y : HandsValue). y.in_use) made.rest;
         calls = most;

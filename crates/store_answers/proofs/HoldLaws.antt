@@ -52,7 +52,8 @@ module _ {C : ℕ} (s : Inside C) (whole : IsWhole s) (unbroken : s.broken ≡ f
     (bytes : List ℕ)
     (begun : IsBegun C (parts_of s.hands) c (parts_of hands1) (phase_now v.course hands1.table) place)
     (object : bytes_of c ≡ bytes) (began : Began C) (at : began.sequence ≡ s.hands.slots.sequence)
-    (row : cells_of began.moved ≡ cells_of s.hands.ledger.moved) where
+    (row : cells_of began.moved ≡ cells_of s.hands.ledger.moved)
+    (many : began.left ≡ 2 * fin.len hands1.table.now + 1) where
   abbrev ks : StoreValue
   ks = kept_of s
 
@@ -135,6 +136,7 @@ module _ {C : ℕ} (s : Inside C) (whole : IsWhole s) (unbroken : s.broken ≡ f
     parts = begun_whole;
     goes = begun_goes;
     keeps = keeps;
+    steps = omega (arith, many, steps_few phase hands1.table);
     room = room_for_all begun_goes (omega (
       arith,
       fresh,
@@ -169,7 +171,7 @@ module _ {C : ℕ} (s : Inside C) (whole : IsWhole s) (unbroken : s.broken ≡ f
     boundary = begun.boundary ∙ ap (λ y. boundary_of y.grid (trigger y)) (same_charges ks c);
     steps = omega (
       arith,
-      steps_few phase hands1.table,
+      many,
       ap (λ (m : Spots). fin.len m) begun.now,
       len_after ks c place,
     );

@@ -111,6 +111,7 @@ holds_with (Some v) began s items long g =
       parts = whole_with (record s { broken = true }) items long g.parts;
       goes = subst (λ x. GoesOn (still_frame began s v) v x untold) same g.goes;
       keeps = g.keeps;
+      steps = g.steps;
       room = g.room;
       paid = subst (λ x. PaidIn began.sequence v x) same g.paid;
       mark = g.mark;

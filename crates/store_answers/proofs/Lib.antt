@@ -30,3 +30,6 @@ pub mod BegunServeLaws
 pub mod SteppedLaws
 pub mod SettledLaws
 pub mod StepExitLaws
+pub mod AboveLaws
+pub mod FactsLaws
+pub mod WidestLaws

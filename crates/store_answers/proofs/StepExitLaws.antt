@@ -1,6 +1,6 @@
 -- What a step of a flush in hand answers, as contracts see the store before and after it.
 use Rattle.std.specs.Prelude.{◌≡◌, ℕ, ◌+◌, ◌≤◌, true, Option, Some, None, Result, Ok, Err, IsTrue, refl}
-use Rattle.std.proofs.Common.{sym, subst}
+use Rattle.std.proofs.Common.{arith, sym, subst}
 use Rattle.disk_face.specs.States as disk
 use Rattle.disk_face.specs.Writes.{KeepsDisk}
 use Rattle.flush_run.specs.declared.hands.Hands.{Hands}
@@ -44,8 +44,11 @@ module _ {C : ℕ} {began : Began C} {s : Inside C} {v : Phase C} {t : StoreValu
   abbrev frame : Origin → FlushFrame
   frame o = frame_at C (seen (Some v) began s) (hand_of began s v) o
 
+  pub step_counts : 1 ≤ began.left
+  step_counts = omega (arith, steps_some v s.hands.table, x.going.steps)
+
   pub step_more : (h : FlushInHand) → t.in_hand ≡ Some h → 1 ≤ h.left
-  step_more = as_seen x (λ y h. 1 ≤ h.left) (steps_some v s.hands.table)
+  step_more = as_seen x (λ y h. 1 ≤ h.left) step_counts
 
   module _ {a : disk.State} (half : IsHalfway C t a) where
     pub step_start : (o : Origin) × CanAdvance (frame o) v x1 a
@@ -120,27 +123,28 @@ module _ {C : ℕ} {began : Began C} {s : Inside C} {v : Phase C} {t : StoreValu
 
         -- an object was moved
         module _ (v2 : Phase C) (is : r ≡ stepped.Moved v2) (keeps : KeepsThen {E = E} (Ok r) x2)
-            (paid : (q : ℕ) → PaidIn q v x1 → PaidThen {E = E} q (Ok r) x2) where
+            (paid : (q : ℕ) → PaidIn q v x1 → PaidThen {E = E} q (Ok r) x2) (n : ℕ)
+            (one : began.left ≡ n + 1) where
           m : StepMoved v v2 x1 x2 a d
           m = step_moved E v x1 x2 a d r v2 is makes goes keeps paid
 
-          pub step_moved_going : IsGoing began (record s { hands = hands2 }) v2
-          step_moved_going = moved_going began s v x.going v2 hands2 m.made m.on m.keeps m.paid step_start
+          pub step_moved_going : IsGoing (record began { left = n }) (record s { hands = hands2 }) v2
+          step_moved_going = moved_going began s v x.going v2 hands2 m.made m.on m.keeps m.paid step_start n one
 
-          pub step_moved_answers : StepAnswers C t (seen (Some v2) began (record s { hands = hands2 })) a d
-              (Ok progress.Moved)
+          pub step_moved_answers : StepAnswers C t (seen (Some v2) (record began { left = n })
+              (record s { hands = hands2 })) a d (Ok progress.Moved)
           step_moved_answers =
-              let t2 = seen (Some v2) began (record s { hands = hands2 }) in
+              let t2 = seen (Some v2) (record began { left = n }) (record s { hands = hands2 }) in
               record {
                 makes = as_seen x (λ y h. MovesOne y t2 h a d)
-                    (moved_makes began s v x.going v2 hands2 m.made m.on m.keeps m.paid step_start);
+                    (moved_makes began s v x.going v2 hands2 m.made m.on m.keeps m.paid step_start n one);
                 sums = as_seen x (λ y h. SumsOfStep y t2 h a d (Ok progress.Moved))
-                    (moved_sums began s v x.going v2 hands2 m.made m.on m.keeps m.paid step_start);
+                    (moved_sums began s v x.going v2 hands2 m.made m.on m.keeps m.paid step_start n one);
                 half = λ told h o is had. as_seen x (λ y k. HalfAgrees C y k o a
                     → StepsHalf C o y t2 a d (Ok progress.Moved))
-                    (λ had. moved_steps began s v x.going v2 hands2 m.made m.on m.keeps m.paid step_start o
-                    had told (left_at o had told)) h is had;
-                over = moved_over began s v x.going v2 hands2 m.made m.on m.keeps m.paid step_start
+                    (λ had. moved_steps began s v x.going v2 hands2 m.made m.on m.keeps m.paid step_start n one
+                    o had told (left_at o had told)) h is had;
+                over = moved_over began s v x.going v2 hands2 m.made m.on m.keeps m.paid step_start n one
                     (half_at x half);
                 frame = m.made.move.keeps.disk;
               }

@@ -192,9 +192,12 @@ module _ {C : ℕ} (began : Began C) (s : Inside C) (v : Phase C) (g : IsGoing b
       (on : (f : FlushFrame) → CanAdvance f v x1 a → GoesOn f v2 (parts_of hands2) d)
       (keeps : KeepsIn v2 (items_in v2 hands2.table))
       (paid : (q : ℕ) → PaidIn q v x1 → PaidIn q v2 (parts_of hands2))
-      (start : (o : Origin) × CanAdvance (frame o) v x1 a) where
+      (start : (o : Origin) × CanAdvance (frame o) v x1 a) (n : ℕ) (one : began.left ≡ n + 1) where
     abbrev pub next : Inside C
     next = record s { hands = hands2 }
+
+    abbrev pub fewer : Began C
+    fewer = record began { left = n }
 
     abbrev x2 : HandsValue
     x2 = parts_of hands2
@@ -205,23 +208,23 @@ module _ {C : ℕ} (began : Began C) (s : Inside C) (v : Phase C) (g : IsGoing b
     some_on : GoesOn (frame start.0) v2 x2 d
     some_on = on (frame start.0) start.1
 
-    book_is : (hand_of began next v2).book_after ≡ hand.book_after
+    book_is : (hand_of fewer next v2).book_after ≡ hand.book_after
     book_is = ap (λ (n : ℕ). with_digests (saved_digests x2) (book_of (laid C SIZE_MAX hands2.slots.block.k n
         (phase_header (phase_in v2 hands2.table) (caps_of hands2.layout) (grid_of hands2.layout))
         hands2.table.now))) (ap (λ (c : PlanFrame). c.numbers.reach) same_course) ∙ some_on.goes.book
 
-    pub hand_moved : hand_of began next v2 ≡ record hand { left = steps_left v2 hands2.table }
+    pub hand_moved : hand_of fewer next v2 ≡ record hand { left = n }
     hand_moved = λ i. record {
       reach = (same_course i).numbers.reach;
       boundary = (same_course i).numbers.boundary;
-      left = steps_left v2 hands2.table;
+      left = n;
       began = began.sequence;
       moved_then = cells_of began.moved;
       book_after = book_is i;
     }
 
     frame_is : with_maps (frame start.0) false fin.empty (kept_of next).kept_book fin.empty hand.book_after
-        ≡ still_frame began next v2
+        ≡ still_frame fewer next v2
     frame_is = λ i. record {
       classes = C;
       size_max = SIZE_MAX;
@@ -235,18 +238,19 @@ module _ {C : ℕ} (began : Began C) (s : Inside C) (v : Phase C) (g : IsGoing b
       new_book = sym book_is i;
     }
 
-    moved_on : GoesOn (still_frame began next v2) v2 x2 untold
+    moved_on : GoesOn (still_frame fewer next v2) v2 x2 untold
     moved_on = subst (λ f. GoesOn f v2 x2 untold) frame_is
         (goes_with some_on false fin.empty (kept_of next).kept_book fin.empty hand.book_after
         some_on.goes.book (λ told. absurd (cc)))
 
-    pub moved_going : IsGoing began next v2
+    pub moved_going : IsGoing fewer next v2
     moved_going = record {
       unbroken = g.unbroken;
       parts = parts_after hands2 s.kept_layout (settling_of made.move.keeps)
           (g.parts.kept_caps ∙ sym made.move.keeps.caps) g.parts.kept_divisor;
       goes = moved_on;
       keeps = keeps;
+      steps = omega (arith, g.steps, made.fewer, one);
       room = omega (
         arith,
         g.room,
@@ -262,7 +266,7 @@ module _ {C : ℕ} (began : Began C) (s : Inside C) (v : Phase C) (g : IsGoing b
 
     -- what contracts see of it
     abbrev seen_next : StoreValue
-    seen_next = seen (Some v2) began next
+    seen_next = seen (Some v2) fewer next
 
     pub moved_makes : MovesOne seen_now seen_next hand a d
     moved_makes =
@@ -281,10 +285,10 @@ module _ {C : ℕ} (began : Began C) (s : Inside C) (v : Phase C) (g : IsGoing b
               (length-records_of s.hands.table.now g.goes.goes.hands.table.now_named)
               (subst (λ n. d.turn ≤ a.turn + calls_of_save made.move.saved
               (length (records_of s.hands.table.now)) + pieces 65536 n) (sym o.size) made.move.turns);
-          left = steps_left v2 hands2.table;
+          left = n;
           in_hand = ap (λ (h : FlushInHand). Some h) hand_moved;
-          fewer = made.fewer;
-          some = steps_some v2 hands2.table;
+          fewer = one;
+          some = omega (arith, g.steps, made.fewer, steps_some v2 hands2.table, one);
           rest = λ i. record seen_next { asked = made.move.keeps.asked i };
         }
 
@@ -316,12 +320,12 @@ module _ {C : ℕ} (began : Began C) (s : Inside C) (v : Phase C) (g : IsGoing b
     pub moved_over : (IsTrue a.tells → (o : Origin) × HalfAgrees C seen_now hand o a)
         → IsHalfway C seen_next d
     moved_over half = record {
-      hand = record hand { left = steps_left v2 hands2.table };
+      hand = record hand { left = n };
       is = ap (λ (h : FlushInHand). Some h) hand_moved;
       digests = ap (λ (b : Book). b.digests) book_is;
       half = λ told.
           let at = half (subst IsTrue made.move.keeps.disk.stays.told told) in
-          (at.0, moved_half at.0 at.1 told (steps_left v2 hands2.table));
+          (at.0, moved_half at.0 at.1 told n);
     }
 
     pub moved_steps : (o : Origin) → HalfAgrees C seen_now hand o a → IsTrue a.tells
@@ -337,5 +341,5 @@ module _ {C : ℕ} (began : Began C) (s : Inside C) (v : Phase C) (g : IsGoing b
           is = refl;
           left = all.0;
           content = all.1;
-          on = λ n is. moved_half o half (subst IsTrue (sym made.move.keeps.disk.stays.told) told) n;
+          on = λ m is. moved_half o half (subst IsTrue (sym made.move.keeps.disk.stays.told) told) m;
         }

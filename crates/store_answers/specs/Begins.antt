@@ -50,7 +50,7 @@ origin_of s c file rests = record {
 -- A flush is in hand that began with a change: the new object has its place, each other one stands where it
 -- stood, and each name has an object of the size that the change leaves it; the book after is the next one
 -- of any map whose objects had the sizes of what stood; the bytes of the change were asked for, and nothing
--- was moved or saved. At most twice as many steps come as there are names, and one.
+-- was moved or saved. Twice as many steps may come as there are names, and one.
 pub record HoldsFlush (c : Change) (old new : StoreValue) (h : FlushInHand) : Type 0 where
   pub is : new.in_hand ≡ Some h
   pub place : ℕ
@@ -60,7 +60,7 @@ pub record HoldsFlush (c : Change) (old new : StoreValue) (h : FlushInHand) : Ty
       → h.book_after ≡ (next_book old.in_use.block.k m old.book c).book
   pub asked : new.asked ≡ asked_after old c
   pub boundary : h.boundary ≡ flush_boundary old c
-  pub steps : h.left ≤ 2 * names_after old c + 1
+  pub steps : h.left ≡ 2 * names_after old c + 1
   pub began : h.began ≡ old.in_use.sequence
   pub moved_then : h.moved_then ≡ old.moved
   pub rest : new ≡ record old {

@@ -53,7 +53,7 @@ abbrev pub hand_of : {C : ℕ} → Began C → Inside C → Phase C → FlushInH
 hand_of {C} began s v = record {
   reach = (course_in v).numbers.reach;
   boundary = (course_in v).numbers.boundary;
-  left = steps_left v s.hands.table;
+  left = began.left;
   began = began.sequence;
   moved_then = cells_of began.moved;
   book_after = with_digests (saved_digests (parts_of s.hands)) (book_of (laid C SIZE_MAX s.hands.slots.block.k
@@ -113,13 +113,15 @@ untold = record {
 }
 
 -- What holds of a store with a flush in hand: it isn't broken; the flush may go on, so far as its parts
--- have a say in it; the sequence leaves room for all steps that are left; and the saves and the bytes moved
--- since it began are those that its phase accounts for.
+-- have a say in it; as many steps are counted as left as may come at least; the sequence leaves room for
+-- those that may come; and the saves and the bytes moved since it began are those that its phase accounts
+-- for.
 pub record IsGoing {C : ℕ} (began : Began C) (s : Inside C) (v : Phase C) : Type 0 where
   pub unbroken : s.broken ≡ false
   pub parts : IsWhole (record s { broken = true })
   pub goes : GoesOn (still_frame began s v) v (parts_of s.hands) untold
   pub keeps : KeepsIn v (items_in v s.hands.table)
+  pub steps : steps_left v s.hands.table ≤ began.left
   pub room : s.hands.slots.sequence + steps_left v s.hands.table ≤ 2 ^ 61 + 2 ^ 18
   pub paid : PaidIn began.sequence v (parts_of s.hands)
   pub mark : Mark

@@ -1,4 +1,5 @@
 pub mod Inside
+pub mod Above
 pub mod Answers
 pub mod Plans
 pub mod Changes
@@ -10,3 +11,4 @@ pub mod Changing
 pub mod Upgrades
 pub mod Begins
 pub mod Steps
+pub mod Facts

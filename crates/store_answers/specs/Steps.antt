@@ -31,7 +31,7 @@ AnswersStep result = (result ≡ Ok progress.Moved) ⊎ (result ≡ Ok progress.
 -- ---- what is made
 
 -- One object was moved, whose bytes the ledger has gained, after a save of what stood or after none. The
--- calls are at most those of the save and of the pieces of the object. Fewer steps are left, and at least
+-- calls are at most those of the save and of the pieces of the object. One step fewer is left, and at least
 -- one.
 pub record MovesOne (old new : StoreValue) (h : FlushInHand) (before now : disk.State) : Type 0 where
   pub name : List ℕ
@@ -46,7 +46,7 @@ pub record MovesOne (old new : StoreValue) (h : FlushInHand) (before now : disk.
   pub turns : now.turn ≤ before.turn + calls_of_save saved (fin.len old.now) + pieces 65536 spot.size
   pub left : ℕ
   pub in_hand : new.in_hand ≡ Some (record h { left = left })
-  pub fewer : left + 1 ≤ h.left
+  pub fewer : h.left ≡ left + 1
   pub some : 1 ≤ left
   pub rest : new ≡ record old {
     in_use = new.in_use;

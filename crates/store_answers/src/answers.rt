@@ -78,6 +78,25 @@ pub struct Stat {
     pub kept_bytes: u64,
 }
 
+/// What a store tells of itself: the version of its tables, 1 or 2 (with digests); K and NAMES of its
+/// superblock; how many names may be live; how many names and bytes there are, now and at the last checkpoint;
+/// the sequence of that; the most bytes that an object of its layout can have; and how many steps of the flush
+/// in hand may still come.
+#[derive(Clone, Copy, Debug, PartialEq, Eq)]
+pub struct Facts {
+    pub version: u8,
+    pub k: u64,
+    pub names: u64,
+    pub cap: u64,
+    pub live: u64,
+    pub bytes: u64,
+    pub kept_live: u64,
+    pub kept_bytes: u64,
+    pub sequence: u64,
+    pub widest: u64,
+    pub moves_left: u64,
+}
+
 /// How long the data part is, and the sequence of the last checkpoint.
 #[derive(Clone, Copy, Debug, PartialEq, Eq)]
 pub struct Gauge {

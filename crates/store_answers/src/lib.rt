@@ -5,5 +5,5 @@
 mod answers;
 mod hand;
 
-pub use answers::{Begun, Done, Gauge, Moment, Progress, Refusal, Stat};
+pub use answers::{Begun, Done, Facts, Gauge, Moment, Progress, Refusal, Stat};
 pub use hand::Began;

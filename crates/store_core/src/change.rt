@@ -27,7 +27,7 @@ impl<const C: usize> Store<C> {
             (state_of self.old (D.state disk.old).file) (ask.change (put_of name.now bytes.now)) reply
             (state_of self.new (D.state disk.new).file)) }
     {
-        match self.accept_put(name, bytes) {
+        match self.accepts_put(name, bytes) {
             Ok(name) => self.put_accepted(disk, &name, bytes),
             Err(refusal) => Err(refusal),
         }
@@ -47,7 +47,7 @@ impl<const C: usize> Store<C> {
             (state_of self.old (D.state disk.old).file) (ask.change (del_of name.now)) reply
             (state_of self.new (D.state disk.new).file)) }
     {
-        match self.accept_del(name) {
+        match self.accepts_del(name) {
             Ok(name) => self.del_accepted(disk, &name),
             Err(refusal) => Err(refusal),
         }

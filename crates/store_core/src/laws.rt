@@ -1,5 +1,6 @@
 //! What holds of stores and of requests, as contracts of functions that do nothing.
-ghost use Rattle.std.specs.Prelude.{◌≡◌, ℕ, ◌*◌, ◌<◌, ◌≤◌, ◌^◌, List, IfOk, IsTrue, Some};
+ghost use Rattle.std.specs.Prelude.{◌≡◌, ℕ, ◌*◌, ◌<◌, ◌≤◌, ◌^◌, ◌∷◌, [], List, IfOk, IsTrue, None, Some, codes};
+ghost use Rattle.std.specs.FinMap as fin;
 ghost use Rattle.slot_codec.specs.Choice.{SlotTable as FoundTable};
 ghost use Rattle.map_model.specs.{Maps.{Map}, Requests.{Change, Refused, Request}};
 ghost use Rattle.map_model.specs.Requests as ask;
@@ -7,9 +8,9 @@ ghost use Rattle.segment_layout.specs.{Books.{Book, book_end, is_quiet, next_boo
 ghost use Rattle.slot_codec.specs.{Readable.{IsSuperBlock}, Reading.{is_version}};
 ghost use Rattle.table_rules.specs.Rules.{IsValid};
 ghost use Rattle.placement_model.specs.{Laid.{settled_table}, Reads.{AreNamed}};
-ghost use Rattle.extent_table.specs.Extents.{IsTable, digests_seen, volume_of};
+ghost use Rattle.extent_table.specs.{declared.spot.Spot.{Spot}, Extents.{IsTable, digests_seen, volume_of}};
 ghost use Rattle.store_model.specs.{Digested.{IsNarrowed}, Connection.{IsOver, StoreValue, SameOnTable, base_of, opened_store, state_of}, Opened.{IsFoundImage, IsOpened, SameOnFound, state_at}, Quiet.{charges_of}, Stores.{IsStore}, States.{Limits, State, Step, facts_of, refusal}};
-ghost use Rattle.store_answers.specs.Answers.{facts_at};
+ghost use Rattle.store_answers.specs.{Above.{first_above, three_names}, Answers.{facts_at}, Facts.{widest_of}};
 
 use crate::Store;
 use crate::memory::{Memory, boxed, no_bytes, store_with, take_memory};
@@ -34,6 +35,30 @@ pub fn a_refusal_leaves_the_state()
 pub fn a_store_has_few_bytes()
     ensures { (classes : ℕ) (s : StoreValue) → IsStore classes s
         → volume_of s.now ≤ s.in_use.block.names * SIZE_MAX }
+{}
+
+/// While a store isn't broken and no flush is in hand, no object has more bytes than the widest that its facts
+/// tell, now or at the last checkpoint.
+pub fn no_object_is_wider()
+    ensures now { (classes : ℕ) (s : StoreValue) (name : List ℕ) (x : Spot) → IsStore classes s
+        → fin.get s.now name ≡ Some x → x.size ≤ widest_of s.book.caps }
+    ensures kept { (classes : ℕ) (s : StoreValue) (name : List ℕ) (x : Spot) → IsStore classes s
+        → fin.get s.kept name ≡ Some x → x.size ≤ widest_of s.book.caps }
+{}
+
+/// The widest of a row of capacities is the greatest size of its last class that has one.
+pub fn the_widest_of_rows()
+    ensures none { widest_of (0 ∷ 0 ∷ []) ≡ 0 }
+    ensures fourth { widest_of (0 ∷ 5 ∷ 0 ∷ 9 ∷ 0 ∷ []) ≡ 15 }
+{}
+
+/// What is found above some bytes, of the names `b`, `bb` and `d`: above none, a front of a name, a name, what
+/// no name is, and the last name.
+pub fn names_above_of_three()
+    ensures none { first_above [] three_names ≡ Some (codes "b", 4) }
+    ensures name { first_above (codes "b") three_names ≡ Some (codes "bb", 0) }
+    ensures between { first_above (codes "c") three_names ≡ Some (codes "d", 7) }
+    ensures last { first_above (codes "d") three_names ≡ None }
 {}
 
 /// Whether a put or a removal is quiet, which is known by where the objects stand and by their sizes,

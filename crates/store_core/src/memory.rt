@@ -83,6 +83,7 @@ pub(crate) fn store_with<const C: usize>(
         began: Began {
             sequence: 0,
             moved: Row::zero(),
+            left: 0,
         },
     }
 }

@@ -60,8 +60,9 @@ impl<const C: usize> Store<C> {
         Charged { layout, outcome }
     }
 
-    /// The name of a put that is served.
-    pub(crate) fn accept_put(&self, name: &[u8], bytes: &[u8]) -> Result<Name, Refusal>
+    /// Whether a put of these bytes under this name would be served: its name, or else the refusal that the put
+    /// would answer. Nothing changes.
+    pub fn accepts_put(&self, name: &[u8], bytes: &[u8]) -> Result<Name, Refusal>
         requires idle { self.now.in_hand ≡ None }
         ensures answer { AcceptsName (refused_by self.now (ask.change (put_of name.now bytes.now))) name.now
             result }
@@ -78,8 +79,9 @@ impl<const C: usize> Store<C> {
         self.unworn(name)
     }
 
-    /// The name of a removal that is served.
-    pub(crate) fn accept_del(&self, name: &[u8]) -> Result<Name, Refusal>
+    /// Whether a removal of this name would be served: the name, or else the refusal that the removal would
+    /// answer. Nothing changes.
+    pub fn accepts_del(&self, name: &[u8]) -> Result<Name, Refusal>
         requires idle { self.now.in_hand ≡ None }
         ensures answer { AcceptsName (refused_by self.now (ask.change (del_of name.now))) name.now result }
         ensures sound { self.now.is_broken ≡ false → self.now.in_hand ≡ None → IsStore C self.now }

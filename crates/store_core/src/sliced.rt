@@ -35,7 +35,7 @@ impl<const C: usize> Store<C> {
             (state_of self.old (D.state disk.old).file) (ask.change (put_of name.now bytes.now)) reply
             (state_of self.new (D.state disk.new).file)) }
     {
-        match self.accept_put(name, bytes) {
+        match self.accepts_put(name, bytes) {
             Ok(name) => self.begin_put_accepted(disk, &name, bytes),
             Err(refusal) => Err(refusal),
         }
@@ -53,7 +53,7 @@ impl<const C: usize> Store<C> {
             (state_of self.old (D.state disk.old).file) (ask.change (del_of name.now)) reply
             (state_of self.new (D.state disk.new).file)) }
     {
-        match self.accept_del(name) {
+        match self.accepts_del(name) {
             Ok(name) => self.begin_del_accepted(disk, &name),
             Err(refusal) => Err(refusal),
         }
@@ -129,9 +129,14 @@ impl<const C: usize> Store<C> {
         let sequence = hands.slots.sequence();
         let moved = hands.ledger.moved;
         let begun = start_change(hands, name, bytes, comes, charged);
+        let left = 2 * hands.table.count() + 1;
         match launch(disk, &begun, hands, bytes) {
             Ok(()) => {
-                self.began = Began { sequence, moved };
+                self.began = Began {
+                    sequence,
+                    moved,
+                    left,
+                };
                 self.flush = Some(Phase::Lift(begun.phase));
                 Ok(Begun::InHand)
             }
@@ -156,6 +161,7 @@ impl<const C: usize> Store<C> {
         match step(disk, phase, hands) {
             Ok(stepped) => match stepped {
                 Stepped::Moved(phase) => {
+                    self.began.left -= 1;
                     self.flush = Some(phase);
                     Ok(Progress::Moved)
                 }

@@ -1,4 +1,5 @@
-use Rattle.std.proofs.Common.{lit<, refl}
+use Rattle.std.specs.Prelude.{◌+◌, ◌*◌}
+use Rattle.std.proofs.Common.{arith, lit<, refl}
 use Rattle.store_model.specs.Charges.{change_of}
 use Rattle.store_answers.proofs.BegunServeLaws.{begin_done, begin_failed, begin_going}
 use Rattle.store_answers.proofs.CopyChargesLaws.{bytes_of_change}
@@ -55,8 +56,11 @@ invariant_of-self g c =
     c.start_change-begun.result.phase c.start_change-begun.result.place c.args.bytes.now
     c.start_change-begun.ensures.begun
     (bytes_of_change c.args.name.now c.args.bytes.now c.args.comes c.requires.nothing)
-    (record { sequence = c.sequence-sequence.result; moved = c.deref_mut-hands.result.now.ledger.moved })
-    c.sequence-sequence.ensures refl c.requires.needs_flush (g.D.Disk.state c.launch.new.disk)
+    (record {
+      sequence = c.sequence-sequence.result;
+      moved = c.deref_mut-hands.result.now.ledger.moved;
+      left = 2 * c.count.result + 1;
+    }) c.sequence-sequence.ensures refl (omega (arith, c.count.ensures.value)) c.requires.needs_flush (g.D.Disk.state c.launch.new.disk)
     c.launch.ensures.left c.launch.ensures.most c.launch.ensures.frame c.start_change-begun.ensures.keeps
 
 pub returns-in-Ok : goal.returns-in-Ok
@@ -69,8 +73,11 @@ returns-in-Ok g c =
     c.start_change-begun.result.phase c.start_change-begun.result.place c.args.bytes.now
     c.start_change-begun.ensures.begun
     (bytes_of_change c.args.name.now c.args.bytes.now c.args.comes c.requires.nothing)
-    (record { sequence = c.sequence-sequence.result; moved = c.deref_mut-hands.result.now.ledger.moved })
-    c.sequence-sequence.ensures refl c.requires.needs_flush (g.D.Disk.state c.launch.new.disk)
+    (record {
+      sequence = c.sequence-sequence.result;
+      moved = c.deref_mut-hands.result.now.ledger.moved;
+      left = 2 * c.count.result + 1;
+    }) c.sequence-sequence.ensures refl (omega (arith, c.count.ensures.value)) c.requires.needs_flush (g.D.Disk.state c.launch.new.disk)
     c.launch.ensures.left c.launch.ensures.most c.launch.ensures.frame
     c.in-Ok.ensures.flies c.in-Ok.ensures.cause
 
@@ -84,6 +91,9 @@ returns-in-Err g c =
     c.start_change-begun.result.phase c.start_change-begun.result.place c.args.bytes.now
     c.start_change-begun.ensures.begun
     (bytes_of_change c.args.name.now c.args.bytes.now c.args.comes c.requires.nothing)
-    (record { sequence = c.sequence-sequence.result; moved = c.deref_mut-hands.result.now.ledger.moved })
-    c.sequence-sequence.ensures refl c.requires.needs_flush (g.D.Disk.state c.launch.new.disk)
+    (record {
+      sequence = c.sequence-sequence.result;
+      moved = c.deref_mut-hands.result.now.ledger.moved;
+      left = 2 * c.count.result + 1;
+    }) c.sequence-sequence.ensures refl (omega (arith, c.count.ensures.value)) c.requires.needs_flush (g.D.Disk.state c.launch.new.disk)
     c.launch.ensures.left c.launch.ensures.most c.launch.ensures.frame _ c.in-Err.ensures.cause)

@@ -1,8 +1,8 @@
-use Rattle.std.specs.Prelude.{◌≡◌, None}
-use Rattle.std.proofs.Common.{inl, inr, lit<, refl, rules}
+use Rattle.std.specs.Prelude.{◌≡◌, ◌-◌, None}
+use Rattle.std.proofs.Common.{arith, inl, inr, lit<, refl, rules}
 use Rattle.flush_run.specs.declared.whole.Halted.{Halted}
 use Rattle.store_answers.specs.declared.answers.Refusal.TheVariants as why
-use Rattle.store_answers.proofs.StepExitLaws.{step_failed, step_more, step_moved_answers, step_moved_going, step_settled_answers, step_settled_whole, step_start}
+use Rattle.store_answers.proofs.StepExitLaws.{step_counts, step_failed, step_more, step_moved_answers, step_moved_going, step_settled_answers, step_settled_whole, step_start}
 use Rattle.store_core.proofs.LentLaws.{steps_from}
 use Rattle.store_core.proofs.store.Store.step.Goals as goal
 
@@ -34,7 +34,8 @@ invariant_of-self g c =
     (search rules) c.self.view_is c.self.invariant c.deref_mut-hands.ensures.value in
     let e = c.in-Ok.ensures in
     step_moved_going x c.requires.half c.step.new.hands (g.D.Disk.state c.step.new.disk) c.step.ensures.left
-    Halted c.in-Ok.stepped e.made e.goes c.in-Moved.phase c.in-Moved.is e.keeps e.paid
+    Halted c.in-Ok.stepped e.made e.goes c.in-Moved.phase c.in-Moved.is e.keeps e.paid _
+    (omega (arith, step_counts x))
 
 pub returns-in-Moved : goal.returns-in-Moved
 returns-in-Moved g c =
@@ -43,7 +44,7 @@ returns-in-Moved g c =
     let e = c.in-Ok.ensures in
     let all = step_moved_answers x c.requires.half c.step.new.hands (g.D.Disk.state c.step.new.disk)
     c.step.ensures.left Halted c.in-Ok.stepped e.made e.goes c.in-Moved.phase c.in-Moved.is e.keeps
-    e.paid in
+    e.paid (c.self.inside.began.left - 1) (omega (arith, step_counts x)) in
     record {
       answer = inl refl;
       more = step_more x;
