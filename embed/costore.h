@@ -51,7 +51,7 @@ extern "C" {
 #define COSTORE_LINE_MOST 85         /* bytes of a line of costore_list */
 #define COSTORE_FRONT 64             /* bytes at the start of a file that costore_shape_of reads */
 
-/* COSTORE_VERSION_NUMBER of the library that is linked. */
+/* The number of the library that is linked, as COSTORE_VERSION_NUMBER. */
 uint32_t costore_version(void);
 
 /* ---- handles and answers ---- */
@@ -94,10 +94,12 @@ enum {
     COSTORE_PENDING = -21,   /* the file keeps an unfinished batch: costore_finish comes first */
     COSTORE_MORE_NAMES = -22,/* the dump has more objects than the store is to have names */
     COSTORE_NO_ROOM = -23    /* the room is too small for so many bytes of objects */
+    /* -100 to -103 are answers of costore_file.h */
 };
 
-/* A word for an answer, without blanks, which stays the same: "missing", "no-room". For an answer that this library
-   doesn't give, also those of costore_file.h, it is "other". It is never null. */
+/* A word for an answer, which stays the same: COSTORE_MISSING is "missing", COSTORE_NO_ROOM "no-room". It has letters
+   and hyphens, and each answer has a word of its own, those of costore_file.h too. For any other number it is "other".
+   It is never null. */
 const char *costore_word(int32_t code);
 
 /* ---- opening and closing ---- */
@@ -236,7 +238,7 @@ int32_t costore_del(costore *store, const uint8_t *name, size_t n);
 int32_t costore_keep(costore *store);
 
 /* Gives each object a digest, the SHA-256 of its bytes, which reads compare from then on: it reads all objects, and
-   saves a checkpoint of version 2 of the present state. In a file of version 2 5 of 7 of the NAMES can be live.
+   saves a checkpoint of version 2 of the present state. In such a file 5 of 7 of the NAMES can be live.
 
    COSTORE_KEPT; COSTORE_DONE (the file has digests already); COSTORE_BUSY; COSTORE_BROKEN; COSTORE_TOO_MANY;
    COSTORE_WORN; COSTORE_DISK. If you crash while replaying the log, the file opens to the last checkpoint, or to the
