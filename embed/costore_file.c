@@ -19,17 +19,19 @@
 #define MAPS 0
 #endif
 
-enum { PIECE = 1 << 16, FRONT = 64, MOST_READ = 1 << 30, LOG_KEPT = 1 << 20, BLANK = 16 };
+enum { PIECE = 1 << 16, MOST_READ = 1 << 30, LOG_KEPT = 1 << 20 };
 
-/* What is known of the region's pages that may have bytes of their own: how many are marked, and which parts of the
-   file are blank. These are what it grew by and no log wrote yet. The library knows that the file has zeros there,
-   whatever the memory has. But it knows two such parts only; where there would be another it writes zeros into one. */
+/* The positions of a file from one up to another. */
+typedef struct span_t {
+    uint64_t from, to;
+} span_t;
+
+/* What is known of the region's pages that may have bytes of their own: how many are marked, and the two gaps of the
+   library. A gap is a part that the file grew by and nobody wrote yet. The library knows that the file has zeros there,
+   whatever the memory has. It knows two gaps: where there would be a third it writes zeros into the shortest. */
 struct costore_touched {
     uint64_t pages;
-    int blanks;
-    struct costore_span {
-        uint64_t from, to;
-    } blank[BLANK];
+    span_t lower, upper;
 };
 
 static void tick(const costore_file_t *f) {
@@ -212,55 +214,56 @@ static int32_t show_file(costore_file_t *f, uint64_t length) {
 
 /* Marks the pages of a part of the file. */
 static void touch(costore_file_t *f, uint64_t from, uint64_t to) {
-    uint64_t size = page_size(), end = (to + size - 1) / size;
-    for (uint64_t page = from / size; page < end; page++) {
+    uint64_t size = page_size();
+    for (uint64_t page = from / size; from < to && page * size < to; page++) {
         uint8_t *bits = &f->marks.at[page / 8], bit = (uint8_t)(1 << page % 8);
         f->touched->pages += !(*bits & bit);
         *bits |= bit;
     }
 }
 
-/* There is another blank part, so that the library may have written zeros. */
-static void touch_blank(costore_file_t *f) {
-    for (int i = 0; i < f->touched->blanks; i++)
-        touch(f, f->touched->blank[i].from, f->touched->blank[i].to);
+static span_t before(span_t gap, uint64_t at) {
+    return (span_t){gap.from < at ? gap.from : at, gap.to < at ? gap.to : at};
 }
 
-/* The file grew by a part, which is blank. */
-static void add_blank(costore_file_t *f, uint64_t from, uint64_t to) {
-    struct costore_touched *t = f->touched;
-    bool joined = false;
-    touch_blank(f);
-    for (int i = 0; i < t->blanks; i++)
-        if (t->blank[i].to == from)
-            t->blank[i].to = to, joined = true;
-    if (!joined && t->blanks < BLANK)
-        t->blank[t->blanks++] = (struct costore_span){from, to};
-    else if (!joined)
-        t->blank[0].to = to;
+static span_t since(span_t gap, uint64_t at) {
+    return (span_t){gap.from > at ? gap.from : at, gap.to > at ? gap.to : at};
 }
 
-/* A part was written or cut off, and is blank no more. */
-static void leave_blank(costore_file_t *f, uint64_t from, uint64_t to) {
-    struct costore_touched *t = f->touched;
-    for (int i = t->blanks - 1; i >= 0; i--) {
-        struct costore_span *it = &t->blank[i];
-        if (to <= it->from || it->to <= from)
-            continue;
-        if (from <= it->from && it->to <= to) {
-            *it = t->blank[--t->blanks];
-        } else if (from <= it->from) {
-            it->from = to;
-        } else if (it->to <= to) {
-            it->to = from;
-        } else {
-            touch_blank(f);
-            if (t->blanks < BLANK) {
-                t->blank[t->blanks++] = (struct costore_span){to, it->to};
-                it->to = from;
-            }
-        }
-    }
+/* Of three gaps the shortest is none any more: the library wrote zeros there. Of equal ones it is the first. */
+static void keep_two(costore_file_t *f, span_t first, span_t second, span_t third) {
+    uint64_t one = first.to - first.from, two = second.to - second.from, three = third.to - third.from;
+    span_t filled = third;
+    f->touched->lower = first, f->touched->upper = second;
+    if (one <= two && one <= three)
+        filled = first, f->touched->lower = second, f->touched->upper = third;
+    else if (two <= three)
+        filled = second, f->touched->upper = third;
+    touch(f, filled.from, filled.to);
+}
+
+/* A part was written, and is in no gap any more. */
+static void part(costore_file_t *f, uint64_t from, uint64_t to) {
+    span_t lower = f->touched->lower, upper = f->touched->upper;
+    keep_two(f, before(lower, from), since(lower, to), upper);
+    upper = f->touched->upper;
+    keep_two(f, f->touched->lower, before(upper, from), since(upper, to));
+    touch(f, from, to);
+}
+
+/* The file grew by a part, which is a gap, or is joined to one. */
+static void extend(costore_file_t *f, uint64_t from, uint64_t to) {
+    span_t upper = f->touched->upper;
+    if (upper.to == from)
+        f->touched->upper.to = to;
+    else
+        keep_two(f, f->touched->lower, upper, (span_t){from, to});
+}
+
+/* The file was cut. */
+static void cut(costore_file_t *f, uint64_t length) {
+    f->touched->lower = before(f->touched->lower, length);
+    f->touched->upper = before(f->touched->upper, length);
 }
 
 /* Whether a page is marked; then the mark is taken away. */
@@ -329,16 +332,13 @@ static int32_t make_entry(const costore_file_t *f, const entry_t *entry) {
 static int32_t settle(costore_file_t *f, uint64_t log, uint64_t length) {
     uint64_t at = 0, end = f->length;
     for (entry_t it; next_entry(f, log, &at, &it);) {
-        if (it.kind == 1) {
-            leave_blank(f, it.where, it.where + it.count);
-            touch(f, it.where, it.where + it.count);
-        } else if (it.kind == 2) {
-            if (it.where > end)
-                add_blank(f, end, it.where);
-            else
-                leave_blank(f, it.where, end);
-            end = it.where;
-        }
+        if (it.kind == 1)
+            part(f, it.where, it.where + it.count);
+        else if (it.kind == 2 && it.where > end)
+            extend(f, end, it.where);
+        else if (it.kind == 2)
+            cut(f, it.where);
+        end = it.kind == 2 ? it.where : end;
     }
     f->length = length;
     if (up(length) < up(f->mapped) && put_pages(f, -1, up(length), up(f->mapped)))
@@ -434,18 +434,13 @@ static int32_t ended(costore_file_t *f, int32_t code) {
     return code;
 }
 
-/* Reads the superblock: the first 64 bytes of a store, with K at 8 and NAMES at 16. */
-static int32_t read_superblock(costore_file_t *f, uint64_t *names) {
-    uint8_t front[FRONT] = {0};
-    uint64_t room, log;
+/* Reads the first bytes of the file, which are those of a store. */
+static int32_t read_shape(const costore_file_t *f, costore_shape *shape) {
+    uint8_t front[COSTORE_FRONT];
     int64_t had = read_front(f->fd, front, sizeof front);
     if (had < 0)
         return COSTORE_SYSTEM;
-    *names = number(front + 16);
-    if (had < FRONT || memcmp(front, "COSTORE1", 8)
-        || costore_need(number(front + 8), *names, 0, 0, &room, &log) != COSTORE_DONE)
-        return COSTORE_NO_STORE;
-    return COSTORE_DONE;
+    return costore_shape_of(front, (size_t)had, shape) == COSTORE_DONE ? COSTORE_DONE : COSTORE_NO_STORE;
 }
 
 /* The most that an opening logs, for a file of `length` bytes with room for `names` names. It cuts the file, or it
@@ -475,24 +470,25 @@ static int32_t open_store(costore_file_t *f, uint64_t length, uint64_t names, ui
     if (code == COSTORE_DONE)
         code = show_file(f, length);
     if (code == COSTORE_DONE)
-        code = costore_new(f->file, f->length, f->log, &f->store.at);
+        code = costore_new(f->file, f->length, f->log, &f->store);
     return code == COSTORE_DONE ? costore_open(&f->store) : code;
 }
 
 int32_t costore_file_open(costore_file_t *f, const char *path, uint64_t room, uint64_t log) {
-    uint64_t length = 0, names = 0;
+    costore_shape shape = {0};
+    uint64_t length = 0;
     int32_t code = begin(f, path);
     if (code == COSTORE_DONE)
         code = find_file(path);
     if (code == COSTORE_DONE)
         code = take(f, path, 0, &length);
     if (code == COSTORE_DONE)
-        code = read_superblock(f, &names);
+        code = read_shape(f, &shape);
     /* What an earlier process wrote must be on the device before the library reads it. */
     if (code == COSTORE_DONE && fsync(f->fd))
         code = COSTORE_SYSTEM;
     if (code == COSTORE_DONE)
-        code = open_store(f, length, names, room, log);
+        code = open_store(f, length, shape.names, room, log);
     return ended(f, replay(f, code));
 }
 
@@ -543,7 +539,7 @@ static int32_t make(costore_file_t *f, const char *path, const dump_t *dump, uin
     if (code == COSTORE_DONE)
         code = take_regions(f, room, log, 0);
     if (code == COSTORE_DONE)
-        code = costore_new(f->file, 0, f->log, &f->store.at);
+        code = costore_new(f->file, 0, f->log, &f->store);
     if (code == COSTORE_DONE)
         code = dump ? costore_load(&f->store, dump->text, dump->n, k, names, dump->number)
                     : costore_format(&f->store, k, names);
@@ -564,8 +560,7 @@ int32_t costore_file_load(costore_file_t *f, const char *path, const uint8_t *te
 }
 
 void costore_file_close(costore_file_t *f) {
-    if (f->store.at)
-        costore_free(f->store);
+    costore_free(&f->store);
     leave_region(&f->file);
     leave_region(&f->marks);
     leave_region(&f->log);
@@ -588,6 +583,10 @@ int32_t costore_file_del(costore_file_t *f, const uint8_t *name, size_t n) {
 
 int32_t costore_file_keep(costore_file_t *f) {
     return f->failed ? COSTORE_BROKEN : replay(f, costore_keep(&f->store));
+}
+
+int32_t costore_file_upgrade(costore_file_t *f) {
+    return f->failed ? COSTORE_BROKEN : replay(f, costore_upgrade(&f->store));
 }
 
 int32_t costore_file_begin_put(costore_file_t *f, const uint8_t *name, size_t n, const uint8_t *object, size_t m) {
@@ -634,38 +633,67 @@ int32_t costore_file_back(costore_file_t *f) {
     return f->failed ? COSTORE_BROKEN : costore_back(&f->store);
 }
 
-bool costore_file_in_hand(costore_file_t *f) {
+bool costore_file_in_hand(const costore_file_t *f) {
     return !f->failed && costore_in_hand(&f->store);
 }
 
-int32_t costore_file_size(costore_file_t *f, const uint8_t *name, size_t n, uint64_t *size) {
+int32_t costore_file_size(const costore_file_t *f, const uint8_t *name, size_t n, uint64_t *size) {
     return f->failed ? COSTORE_BROKEN : costore_size(&f->store, name, n, size);
 }
 
-int32_t costore_file_position(costore_file_t *f, const uint8_t *name, size_t n, uint64_t *at, uint64_t *size) {
+int32_t costore_file_position(const costore_file_t *f, const uint8_t *name, size_t n, uint64_t *at, uint64_t *size) {
     return f->failed ? COSTORE_BROKEN : costore_position(&f->store, name, n, at, size);
 }
 
-int32_t costore_file_get(costore_file_t *f, const uint8_t *name, size_t n, uint8_t *out, size_t m, uint64_t *size) {
+int32_t costore_file_get(const costore_file_t *f, const uint8_t *name, size_t n, uint8_t *out, size_t m,
+                         uint64_t *size) {
     return f->failed ? COSTORE_BROKEN : costore_get(&f->store, name, n, out, m, size);
 }
 
-int32_t costore_file_old(costore_file_t *f, const uint8_t *name, size_t n, uint8_t *out, size_t m, uint64_t *size) {
+int32_t costore_file_old(const costore_file_t *f, const uint8_t *name, size_t n, uint8_t *out, size_t m,
+                         uint64_t *size) {
     return f->failed ? COSTORE_BROKEN : costore_old(&f->store, name, n, out, m, size);
 }
 
-int32_t costore_file_list(costore_file_t *f, uint8_t *out, size_t m, uint64_t *size) {
+int32_t costore_file_read(const costore_file_t *f, const uint8_t *name, size_t n, uint64_t from, uint8_t *out,
+                          size_t m, uint64_t *size) {
+    return f->failed ? COSTORE_BROKEN : costore_read(&f->store, name, n, from, out, m, size);
+}
+
+int32_t costore_file_look(const costore_file_t *f, const uint8_t *name, size_t n, const uint8_t **bytes,
+                          uint64_t *size) {
+    uint64_t at = 0;
+    int32_t code = f->failed ? COSTORE_BROKEN : costore_position(&f->store, name, n, &at, size);
+    if (code == COSTORE_DONE)
+        *bytes = f->file.at + at;
+    return code;
+}
+
+int32_t costore_file_next(const costore_file_t *f, const uint8_t *above, size_t n, uint8_t *out, size_t m,
+                          uint64_t *length, uint64_t *size) {
+    return f->failed ? COSTORE_BROKEN : costore_next(&f->store, above, n, out, m, length, size);
+}
+
+int32_t costore_file_list(const costore_file_t *f, uint8_t *out, size_t m, uint64_t *size) {
     return f->failed ? COSTORE_BROKEN : costore_list(&f->store, out, m, size);
 }
 
-int32_t costore_file_stat(costore_file_t *f, costore_counts *counts) {
+int32_t costore_file_stat(const costore_file_t *f, costore_counts *counts) {
     return f->failed ? COSTORE_BROKEN : costore_stat(&f->store, counts);
 }
 
-int32_t costore_file_dump(costore_file_t *f, uint8_t *out, size_t m, uint64_t *size) {
+int32_t costore_file_info(const costore_file_t *f, costore_facts *facts) {
+    return f->failed ? COSTORE_BROKEN : costore_info(&f->store, facts);
+}
+
+int32_t costore_file_check(const costore_file_t *f, costore_fault *fault) {
+    return f->failed ? COSTORE_BROKEN : costore_check(&f->store, fault);
+}
+
+int32_t costore_file_dump(const costore_file_t *f, uint8_t *out, size_t m, uint64_t *size) {
     return f->failed ? COSTORE_BROKEN : costore_dump(&f->store, out, m, size);
 }
 
-int32_t costore_file_read(costore_file_t *f, uint64_t at, uint8_t *out, size_t m) {
+int32_t costore_file_bytes(const costore_file_t *f, uint64_t at, uint8_t *out, size_t m) {
     return f->failed ? COSTORE_BROKEN : costore_file(&f->store, at, out, m);
 }

@@ -31,7 +31,8 @@ extern "C" {
 #define COSTORE_GONE (-103)
 
 /* An open file. The fields are its own, except for `before`, which a test can set: it is called before each call of the
-   system in a replay, and in what makes the region show the file again. */
+   system in a replay, and in what makes the region show the file again. `store` can be passed to the calls of costore.h
+   that take a const handle. */
 typedef struct costore_file_t {
     costore store;
     int fd;
@@ -87,36 +88,65 @@ void costore_file_close(costore_file_t *f);
 
    Each makes the call of the library and replays its log. At COSTORE_DONE and above the log was replayed, and at
    COSTORE_KEPT the present state is durable. Beside the library's answers: COSTORE_SYSTEM and COSTORE_GONE. After one
-   of these two the store is closed, and all calls below answer COSTORE_BROKEN. As costore_put and costore_del of
-   costore.h say, a change can flush, and a flush saves checkpoints. */
+   of these two the store is closed, and all calls below answer COSTORE_BROKEN. */
+
+/* As costore_put and costore_del. These can flush, and a flush saves checkpoints. COSTORE_NO_ROOM says that `room` of
+   the opening is too small: nothing was changed. */
 int32_t costore_file_put(costore_file_t *f, const uint8_t *name, size_t n, const uint8_t *object, size_t m);
 int32_t costore_file_del(costore_file_t *f, const uint8_t *name, size_t n);
-int32_t costore_file_keep(costore_file_t *f);
+
+/* The same by steps, as costore_begin_put, costore_begin_del and costore_step. COSTORE_NO_ROOM comes of a begin, and
+   of no step. */
 int32_t costore_file_begin_put(costore_file_t *f, const uint8_t *name, size_t n, const uint8_t *object, size_t m);
 int32_t costore_file_begin_del(costore_file_t *f, const uint8_t *name, size_t n);
 int32_t costore_file_step(costore_file_t *f);
+
+/* As costore_keep and costore_upgrade. */
+int32_t costore_file_keep(costore_file_t *f);
+int32_t costore_file_upgrade(costore_file_t *f);
 
 /* Does the puts and removals of a text as one, as costore_batch does. A batch that an interruption has left in the file
    is finished first. The log must hold the text, each object, and a flush for each request that needs one: more than
    costore_need says (EMBED.md, "Caveats"). */
 int32_t costore_file_batch(costore_file_t *f, const uint8_t *text, size_t n, uint64_t *number);
-/* Finishes a batch that an interruption has left, as costore_finish does: COSTORE_DONE where there is none. */
+
+/* Finishes a batch that an interruption has left, as costore_finish does: COSTORE_DONE where there is none. It takes
+   memory for the text of the batch meanwhile: COSTORE_NO_MEMORY, and nothing was changed. */
 int32_t costore_file_finish(costore_file_t *f, uint64_t *number);
 
-/* ---- what logs nothing ----
-
-   Each answers as the call of the library does that has its name without `_file`; costore_file_read as costore_file,
-   which copies bytes of the file from a position on. */
+/* Goes back to the last checkpoint, as costore_back. */
 int32_t costore_file_back(costore_file_t *f);
-bool costore_file_in_hand(costore_file_t *f);
-int32_t costore_file_size(costore_file_t *f, const uint8_t *name, size_t n, uint64_t *size);
-int32_t costore_file_position(costore_file_t *f, const uint8_t *name, size_t n, uint64_t *at, uint64_t *size);
-int32_t costore_file_get(costore_file_t *f, const uint8_t *name, size_t n, uint8_t *out, size_t m, uint64_t *size);
-int32_t costore_file_old(costore_file_t *f, const uint8_t *name, size_t n, uint8_t *out, size_t m, uint64_t *size);
-int32_t costore_file_list(costore_file_t *f, uint8_t *out, size_t m, uint64_t *size);
-int32_t costore_file_stat(costore_file_t *f, costore_counts *counts);
-int32_t costore_file_dump(costore_file_t *f, uint8_t *out, size_t m, uint64_t *size);
-int32_t costore_file_read(costore_file_t *f, uint64_t at, uint8_t *out, size_t m);
+
+/* ---- reads ----
+
+   Each answers as the call of the library does that has its name without `_file`. Many of them may run at a time on one
+   file, while no other call does. */
+bool costore_file_in_hand(const costore_file_t *f);
+int32_t costore_file_size(const costore_file_t *f, const uint8_t *name, size_t n, uint64_t *size);
+int32_t costore_file_position(const costore_file_t *f, const uint8_t *name, size_t n, uint64_t *at, uint64_t *size);
+int32_t costore_file_get(const costore_file_t *f, const uint8_t *name, size_t n, uint8_t *out, size_t m,
+                         uint64_t *size);
+int32_t costore_file_old(const costore_file_t *f, const uint8_t *name, size_t n, uint8_t *out, size_t m,
+                         uint64_t *size);
+int32_t costore_file_read(const costore_file_t *f, const uint8_t *name, size_t n, uint64_t from, uint8_t *out,
+                          size_t m, uint64_t *size);
+int32_t costore_file_next(const costore_file_t *f, const uint8_t *above, size_t n, uint8_t *out, size_t m,
+                          uint64_t *length, uint64_t *size);
+int32_t costore_file_list(const costore_file_t *f, uint8_t *out, size_t m, uint64_t *size);
+int32_t costore_file_stat(const costore_file_t *f, costore_counts *counts);
+int32_t costore_file_info(const costore_file_t *f, costore_facts *facts);
+int32_t costore_file_check(const costore_file_t *f, costore_fault *fault);
+int32_t costore_file_dump(const costore_file_t *f, uint8_t *out, size_t m, uint64_t *size);
+
+/* Writes where in memory the bytes of an object begin, and how many they are. They are there until the next call on
+   this file that isn't a read. Nobody may write there, and their digest isn't compared: costore_file_get does that.
+
+   COSTORE_DONE; COSTORE_BROKEN; COSTORE_BAD_NAME; COSTORE_MISSING. */
+int32_t costore_file_look(const costore_file_t *f, const uint8_t *name, size_t n, const uint8_t **bytes,
+                          uint64_t *size);
+
+/* Copies m bytes of the file, from a position on, as costore_file does. */
+int32_t costore_file_bytes(const costore_file_t *f, uint64_t at, uint8_t *out, size_t m);
 
 #ifdef __cplusplus
 }

@@ -16,13 +16,13 @@ struct Region {
 
 #[link(name = "costore", kind = "static")]
 extern "C" {
-    fn costore_new(file: Region, length: u64, log: Region, at: *mut *mut c_void) -> i32;
+    fn costore_new(file: Region, length: u64, log: Region, store: *mut Store) -> i32;
     fn costore_format(store: *mut Store, k: u64, names: u64) -> i32;
     fn costore_put(store: *mut Store, name: *const u8, n: usize, object: *const u8, m: usize) -> i32;
     fn costore_keep(store: *mut Store) -> i32;
-    fn costore_get(store: *mut Store, name: *const u8, n: usize, out: *mut u8, m: usize, size: *mut u64) -> i32;
-    fn costore_lengths(store: *mut Store, log: *mut u64, file: *mut u64) -> i32;
-    fn costore_free(store: Store);
+    fn costore_get(store: *const Store, name: *const u8, n: usize, out: *mut u8, m: usize, size: *mut u64) -> i32;
+    fn costore_lengths(store: *const Store, log: *mut u64, file: *mut u64) -> i32;
+    fn costore_free(store: *mut Store);
 }
 
 fn main() {
@@ -37,14 +37,14 @@ fn main() {
     // The pointers are those of slices and locals, with their lengths; the handle is used by one call at a time.
     // Nothing else uses the two vectors until it is freed.
     unsafe {
-        println!("new {}", costore_new(for_file, 0, for_log, &mut store.at));
+        println!("new {}", costore_new(for_file, 0, for_log, &mut store));
         println!("format {}", costore_format(&mut store, 9, 1024));
         costore_put(&mut store, name.as_ptr(), name.len(), object.as_ptr(), object.len());
         println!("keep {}", costore_keep(&mut store));
-        costore_lengths(&mut store, &mut log, &mut file);
+        costore_lengths(&store, &mut log, &mut file);
         println!("the log has {log} bytes");
-        let code = costore_get(&mut store, name.as_ptr(), name.len(), out.as_mut_ptr(), out.len(), &mut size);
+        let code = costore_get(&store, name.as_ptr(), name.len(), out.as_mut_ptr(), out.len(), &mut size);
         println!("get {code} {}", String::from_utf8_lossy(&out[..size as usize]));
-        costore_free(store);
+        costore_free(&mut store);
     }
 }

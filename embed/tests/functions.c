@@ -27,7 +27,7 @@ static void is(const char *what, int64_t found, int64_t wanted) {
 /* Makes a handle over a file of `length` bytes at the start of `memory`. */
 static int32_t lend(costore *store, size_t room, uint64_t length, size_t log) {
     costore_region file = {memory, room}, notes = {noted, log};
-    return costore_new(file, length, notes, &store->at);
+    return costore_new(file, length, notes, store);
 }
 
 static void changes(costore_file_t *f) {
@@ -58,7 +58,7 @@ static void changes(costore_file_t *f) {
     is("bytes of big", memcmp(out, object, sizeof object), 0);
     is("position, in hand", costore_file_position(f, TEXT("big"), &at, &size), COSTORE_DONE);
     is("size, in hand", (int64_t)size, sizeof object);
-    is("file, in hand", costore_file_read(f, at, out, sizeof object), COSTORE_DONE);
+    is("file, in hand", costore_file_bytes(f, at, out, sizeof object), COSTORE_DONE);
     is("is big", memcmp(out, object, sizeof object), 0);
     is("old, busy", costore_file_old(f, TEXT("a"), out, sizeof out, &size), COSTORE_BUSY);
     is("stat, busy", costore_file_stat(f, &counts), COSTORE_BUSY);
@@ -73,7 +73,7 @@ static void changes(costore_file_t *f) {
     is("list, just fits", costore_file_list(f, out, size, &size), COSTORE_DONE);
     is("lengths", costore_lengths(&f->store, &log, &length), COSTORE_DONE);
     is("log, too long", costore_log(&f->store, log, out, 1), COSTORE_SHORT);
-    is("file", costore_file_read(f, 0, out, 8), COSTORE_DONE);
+    is("file", costore_file_bytes(f, 0, out, 8), COSTORE_DONE);
 }
 
 /* The texts of the log, the list and the file, and the numbers of what there is. */
@@ -102,12 +102,12 @@ static void texts(costore_file_t *f) {
     is("lengths", costore_lengths(&f->store, &log, &length), COSTORE_DONE);
     is("last entry", costore_log(&f->store, log - COSTORE_ENTRY_HEAD, out, COSTORE_ENTRY_HEAD), COSTORE_DONE);
     is("its kind", out[0], 3);
-    is("file", costore_file_read(f, 0, out, 8), COSTORE_DONE);
+    is("file", costore_file_bytes(f, 0, out, 8), COSTORE_DONE);
     is("first bytes", memcmp(out, "COSTORE1", 8), 0);
     is("byte of the file", pread(f->fd, &byte, 1, (off_t)length - 1), 1);
-    is("last byte", costore_file_read(f, length - 1, out, 1), COSTORE_DONE);
+    is("last byte", costore_file_bytes(f, length - 1, out, 1), COSTORE_DONE);
     is("is that of the file", out[0], byte);
-    is("file, too long", costore_file_read(f, length, out, 1), COSTORE_SHORT);
+    is("file, too long", costore_file_bytes(f, length, out, 1), COSTORE_SHORT);
 }
 
 /* An object is in the file in memory, and in the one on the device, where its position says. */
@@ -119,7 +119,7 @@ static void position(costore_file_t *f, const char *name, const char *object) {
     is("its size", (int64_t)size, (int64_t)n);
     is("lengths", costore_lengths(&f->store, &log, &length), COSTORE_DONE);
     is("within the file", at + size <= length, 1);
-    is("file there", costore_file_read(f, at, out, n), COSTORE_DONE);
+    is("file there", costore_file_bytes(f, at, out, n), COSTORE_DONE);
     is("is the object", memcmp(out, object, n), 0);
     is("device there", pread(f->fd, out, n, (off_t)at), (int64_t)n);
     is("is the object", memcmp(out, object, n), 0);
@@ -211,16 +211,16 @@ static void streams(const char *path) {
     is("load, closed", costore_load(&bare, out, size, 5, 16, &number), COSTORE_NOT_NEW);
     is("dump, closed", costore_dump(&bare, out, size, &again), COSTORE_CLOSED);
     is("batch, closed", costore_batch(&bare, out, 0, &number), COSTORE_CLOSED);
-    costore_free(bare);
+    costore_free(&bare);
     is("new", lend(&bare, sizeof memory, 0, sizeof noted), COSTORE_DONE);
     memcpy(other, "dump 17", 7);
     memcpy(other + 7, out + 6, size - 6);
     is("load, more names", costore_load(&bare, other, size + 1, 5, 16, &number), COSTORE_MORE_NAMES);
     is("how many", (int64_t)number, 17);
-    costore_free(bare);
+    costore_free(&bare);
     is("new", lend(&bare, sizeof memory, 0, 1000), COSTORE_DONE);
     is("load, log too small", costore_load(&bare, out, size, 5, 16, &number), COSTORE_DISK);
-    costore_free(bare);
+    costore_free(&bare);
 }
 
 /* A file with too small a room, or a log that is too small: nothing is replayed, and the store is broken. */
@@ -249,7 +249,7 @@ static void small(const char *path) {
     is("open, small log", costore_open(&bare), COSTORE_DONE);
     is("put, log too small", costore_put(&bare, TEXT("z"), object, sizeof object), COSTORE_DISK);
     is("get, broken", costore_get(&bare, TEXT("a"), out, sizeof out, &size), COSTORE_BROKEN);
-    costore_free(bare);
+    costore_free(&bare);
 }
 
 /* Handles over regions that have no store, and stores that are made in memory which isn't zeros. */
@@ -265,14 +265,14 @@ static void regions(void) {
     is("format, bad number", costore_format(&bare, 1, 1024), COSTORE_BAD_NUMBER);
     is("format, small room", costore_format(&bare, 9, 1024), COSTORE_DISK);
     is("open, closed", costore_open(&bare), COSTORE_NOT_NEW);
-    costore_free(bare);
+    costore_free(&bare);
     is("new, just fits", lend(&bare, 8, 8, 8), COSTORE_DONE);
     is("nothing is touched", memory[0] == 'm' && memory[7] == 'm' && noted[0] == 'n', 1);
     is("put, no store yet", costore_put(&bare, TEXT("a"), TEXT("b")), COSTORE_CLOSED);
     is("format, not empty", costore_format(&bare, 9, 1024), COSTORE_NOT_NEW);
     is("load, not empty", costore_load(&bare, TEXT(""), 9, 1024, &number), COSTORE_NOT_NEW);
     is("open, no store", costore_open(&bare), COSTORE_NO_STORE);
-    costore_free(bare);
+    costore_free(&bare);
     is("new", lend(&bare, sizeof memory, 0, sizeof noted), COSTORE_DONE);
     is("format", costore_format(&bare, 9, 64), COSTORE_DONE);
     is("open, open", costore_open(&bare), COSTORE_NOT_NEW);
@@ -284,7 +284,7 @@ static void regions(void) {
     is("log", costore_log(&bare, log - 16, out, 16), COSTORE_DONE);
     is("the log is in its region", memcmp(out, noted + log - 16, 16), 0);
     is("close", costore_close(&bare), COSTORE_DONE);
-    costore_free(bare);
+    costore_free(&bare);
 }
 
 int main(int argc, char **argv) {

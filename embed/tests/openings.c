@@ -205,10 +205,10 @@ static bool is_moving(const char *path) {
     if (file)
         fclose(file);
     memcpy(lent, file_now, length);
-    int32_t code = costore_new(region, length, notes, &bare.at);
+    int32_t code = costore_new(region, length, notes, &bare);
     if (code == COSTORE_DONE) {
         code = costore_open(&bare);
-        costore_free(bare);
+        costore_free(&bare);
     }
     return code == COSTORE_DISK;
 }
@@ -263,7 +263,7 @@ static void interrupted(void) {
         is("open", which, code, COSTORE_DONE);
         if (code != COSTORE_DONE)
             continue;
-        is("open: bytes read", which, (int64_t)had, FRONT + (f.reads ? (int64_t)n : 0));
+        is("open: bytes read", which, (int64_t)had, COSTORE_FRONT + (f.reads ? (int64_t)n : 0));
         is("objects", which, has_all(&f), 1);
         is("lengths", which, costore_lengths(&f.store, &log, &now), COSTORE_DONE);
         is("bound of the log", which, log > 100 && log <= most_log(n, NAMES), 1);

@@ -45,7 +45,7 @@ static long own(const costore_file_t *f) {
 static bool is_same(costore_file_t *f, uint64_t length) {
     struct stat is;
     if (fstat(f->fd, &is) || (uint64_t)is.st_size != length || pread(f->fd, theirs, length, 0) != (ssize_t)length
-        || costore_file_read(f, 0, mine, length) != COSTORE_DONE || memcmp(mine, theirs, length))
+        || costore_file_bytes(f, 0, mine, length) != COSTORE_DONE || memcmp(mine, theirs, length))
         return false;
     for (uint64_t at = 0; at < length; at++)
         if (theirs[at] != 0 && f->file.at[at] != theirs[at])
