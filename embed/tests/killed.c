@@ -1,14 +1,37 @@
 /* Runs drawn sessions that are killed within a replay, and opens each file again: killed FOLDER RUNS. It must then have
-   the last checkpoint that was acknowledged, or the state after the request that was under way. */
+   the last checkpoint that was acknowledged, or the state after the request that was under way. A third of them is
+   killed where pages of the file are mapped or given back. */
 #define _GNU_SOURCE
-#include "costore_file.h"
-
 #include <signal.h>
+#include <stdbool.h>
 #include <stdio.h>
-#include <stdlib.h>
-#include <string.h>
+#include <sys/mman.h>
 #include <sys/wait.h>
 #include <unistd.h>
+
+/* Whether the moments of this run are the calls below, or those before which costore_file.c calls `before`. How many
+   came, and at which the process is killed (at none where that is 0). */
+static bool at_pages;
+static int moments, last_moment;
+
+static void come(bool pages) {
+    if (pages == at_pages && ++moments == last_moment)
+        kill(getpid(), SIGKILL);
+}
+
+static void *come_mmap(void *at, size_t n, int prot, int how, int fd, off_t from) {
+    come(true);
+    return mmap(at, n, prot, how, fd, from);
+}
+
+static int come_madvise(void *at, size_t n, int how) {
+    come(true);
+    return madvise(at, n, how);
+}
+
+#define mmap come_mmap
+#define madvise come_madvise
+#include "costore_file.c"
 
 enum { NAMES = 40, MOST = 3000, REQUESTS = 400 };
 
@@ -56,12 +79,9 @@ static void request(unsigned run, int number, int *which, int *size, unsigned *s
     *size = kind == 0 ? -2 : kind < 4 ? -1 : (int)(drawn(&state) % MOST);
 }
 
-static int moments, last_moment;
-
-static void tick(void *with) {
+static void come_before(void *with) {
     (void)with;
-    if (++moments >= last_moment)
-        kill(getpid(), SIGKILL);
+    come(false);
 }
 
 /* Whether the last log is no longer than was asked for: an opened file has more, so as to finish any flush. */
@@ -119,6 +139,8 @@ static int same(costore_file_t *f, const map_t *m) {
     return 1;
 }
 
+static int killed_at_pages;
+
 /* One run: a child serves requests, reports each, and is killed. */
 static const char *try(const char *path, unsigned run) {
     costore_file_t f;
@@ -131,14 +153,15 @@ static const char *try(const char *path, unsigned run) {
     if (costore_file_format(&f, path, 9, 64, room, log_room) != COSTORE_DONE)
         return "format";
     costore_file_close(&f);
-    last_moment = 1 + (int)(drawn(&state) % 3000);
+    at_pages = run % 3 == 2;
+    int last = 1 + (int)(drawn(&state) % (at_pages ? 100 : 3000));
     if (pipe(ends))
         return "pipe";
     pid_t child = fork();
     if (child == 0) {
         if (costore_file_open(&f, path, room, log_room) != COSTORE_DONE)
             _exit(1);
-        f.before = tick;
+        f.before = come_before, moments = 0, last_moment = last;
         for (int i = 0; i < REQUESTS; i++) {
             said.number = i;
             said.code = serve(&f, run, i);
@@ -164,6 +187,7 @@ static const char *try(const char *path, unsigned run) {
     close(ends[0]);
     int status;
     waitpid(child, &status, 0);
+    killed_at_pages += at_pages && WIFSIGNALED(status);
     next = now;
     if (done < REQUESTS)
         change(&next, run, done);
@@ -190,6 +214,11 @@ int main(int argc, char **argv) {
             failed++;
             printf("killed: failed: run %d: %s\n", run, wrong);
         }
+    }
+    /* So many of 20 runs come to these moments. */
+    if (atoi(argv[2]) >= 20 && killed_at_pages < 3) {
+        failed++;
+        printf("killed: failed: %d were killed where pages are mapped or given back\n", killed_at_pages);
     }
     printf("%d passed, %d failed\n", passed, failed);
     return failed != 0;

@@ -1,99 +1,16 @@
 /* Opens and makes files that aren't as they should be, that lose their name, or whose calls of the system fail:
-   openings FOLDER. The calls that costore_file.c makes on its file and its memory go through the functions below, which
-   count them and fail the one that is asked for. Pages are given back after each log. At the end FOLDER/openings is a
-   store. */
+   openings FOLDER. At the end FOLDER/openings is a store. */
 #define _GNU_SOURCE
-#include <errno.h>
+#include "calls.h"
+#include "counted.h"
+
 #include <fcntl.h>
-#include <stdbool.h>
-#include <stdint.h>
-#include <stdio.h>
 #include <stdlib.h>
-#include <string.h>
-#include <sys/mman.h>
 #include <sys/stat.h>
-#include <unistd.h>
-
-/* How many calls were made, which of them fails (none at 0) and with what, and whether that one may fail: if what pages
-   have isn't given back, nothing is wrong. */
-static uint64_t calls, fails;
-static int cause = EIO;
-static bool may_fail;
-
-/* How many bytes were read, and how many one call reads or writes at most. */
-static uint64_t had;
-static size_t piece = SIZE_MAX;
-
-static bool falls(void) {
-    if (++calls != fails)
-        return false;
-    errno = cause;
-    return true;
-}
-
-static ssize_t try_pread(int fd, void *out, size_t n, off_t at) {
-    ssize_t done = falls() ? -1 : pread(fd, out, n < piece ? n : piece, at);
-    had += done > 0 ? (uint64_t)done : 0;
-    return done;
-}
-
-static ssize_t try_pwrite(int fd, const void *bytes, size_t n, off_t at) {
-    return falls() ? -1 : pwrite(fd, bytes, n < piece ? n : piece, at);
-}
-
-static int try_ftruncate(int fd, off_t n) { return falls() ? -1 : ftruncate(fd, n); }
-static int try_fsync(int fd) { return falls() ? -1 : fsync(fd); }
-static int try_fdatasync(int fd) { return falls() ? -1 : fdatasync(fd); }
-
-#ifndef COSTORE_FILE_READS
-/* How often addresses were reserved, which of the first times that is refused (a bit for each), and with what the
-   system doesn't map the file (0 if it does). */
-static unsigned reserves, refused;
-static int unmapped;
-
-static void *try_mmap(void *at, size_t n, int prot, int how, int fd, off_t from) {
-    if (how & MAP_FIXED && falls())
-        return MAP_FAILED;
-    errno = fd >= 0 ? unmapped : 0;
-    if (!(how & MAP_FIXED) && reserves < 8 && refused >> reserves++ & 1)
-        errno = ENOMEM;
-    return errno ? MAP_FAILED : mmap(at, n, prot, how, fd, from);
-}
-
-static int try_madvise(void *at, size_t n, int how) {
-    if (!falls())
-        return madvise(at, n, how);
-    may_fail = true;
-    return -1;
-}
-#endif
-
-#define pread try_pread
-#define pwrite try_pwrite
-#define ftruncate try_ftruncate
-#define fsync try_fsync
-#define fdatasync try_fdatasync
-#define mmap try_mmap
-#define madvise try_madvise
-#define COSTORE_PENDING_PAGES 1
-#include "costore_file.c"
-
-#define TEXT(text) (const uint8_t *)(text), strlen(text)
-#define COUNT(table) (sizeof(table) / sizeof *(table))
 
 enum { NAMES = 64, OBJECTS = 40, ROOM = 1 << 20, LOG = 1 << 20, LARGE = 1 << 20 };
 
-static int passed, failed;
 static char here[4096];
-
-static void is(const char *what, const char *which, int64_t found, int64_t wanted) {
-    if (found == wanted) {
-        passed++;
-    } else {
-        failed++;
-        printf("openings: failed: %s, %s: %lld, not %lld\n", what, which, (long long)found, (long long)wanted);
-    }
-}
 
 static int64_t size_of(const char *path) {
     struct stat now;
@@ -491,6 +408,5 @@ int main(int argc, char **argv) {
     names();
     is("rename", "openings", rename("openings", "../openings"), 0);
     is("files that stay open", "all", next_number(), number_before);
-    printf("%d passed, %d failed\n", passed, failed);
-    return failed != 0;
+    return counted();
 }

@@ -4,13 +4,9 @@
    Then the bytes past the file's end are overwritten, as nothing is promised of them. Where costore_file.c gives pages
    back after each log, that isn't done; there no page of the region may have bytes of its own. */
 #define _GNU_SOURCE
-#include "costore_file.h"
+#include "costore_file.c"
 
 #include <inttypes.h>
-#include <stdio.h>
-#include <string.h>
-#include <sys/stat.h>
-#include <unistd.h>
 
 enum { NAMES = 40, MOST = 1 << 14, CHANGES = 1000, ROOM = 1 << 21, LOG = 1 << 23, PAST = 20000 };
 
@@ -40,15 +36,20 @@ static long own(const costore_file_t *f) {
     return sum;
 }
 
-/* The library's file is that on the device. So is its memory, except that it may have other bytes where the file has
-   zeros. */
+/* Whether a position is in one of the two gaps, as costore_file.c knows them. */
+static bool in_gap(const costore_file_t *f, uint64_t at) {
+    const struct costore_touched *t = f->touched;
+    return (t->lower.from <= at && at < t->lower.to) || (t->upper.from <= at && at < t->upper.to);
+}
+
+/* The library's file is that on the device. So is its memory, except in the gaps, in which the file has zeros. */
 static bool is_same(costore_file_t *f, uint64_t length) {
     struct stat is;
     if (fstat(f->fd, &is) || (uint64_t)is.st_size != length || pread(f->fd, theirs, length, 0) != (ssize_t)length
         || costore_file_bytes(f, 0, mine, length) != COSTORE_DONE || memcmp(mine, theirs, length))
         return false;
     for (uint64_t at = 0; at < length; at++)
-        if (theirs[at] != 0 && f->file.at[at] != theirs[at])
+        if (f->reads || in_gap(f, at) ? theirs[at] != 0 && f->file.at[at] != theirs[at] : f->file.at[at] != theirs[at])
             return false;
     return !at_once || f->reads || own(f) == 0;
 }
