@@ -41,6 +41,9 @@ fn try_refused(rt: &impl Abort, alloc: Global, trial: &mut Trial<Fuse<MemDisk>>,
     };
     try_rows(rt, alloc, trial, &[failed]);
     try_rows(rt, alloc, trial, BROKEN_ROWS);
+    let found = trial.store().next_above(b"");
+    try_holds(rt, found == Err(Refusal::Broken), &call);
+    try_holds(rt, trial.store().facts().live == 3, &call);
 }
 
 /// Such a put, and what the file opens to from there.

@@ -22,6 +22,8 @@ mod maps;
 #[cfg(test)]
 mod moments;
 #[cfg(test)]
+mod next_names;
+#[cfg(test)]
 mod quiet;
 #[cfg(test)]
 mod refusals;
@@ -35,6 +37,8 @@ pub mod slices;
 #[cfg(test)]
 mod stepped;
 pub mod trials;
+#[cfg(test)]
+mod told_facts;
 #[cfg(test)]
 mod upgrades;
 #[cfg(test)]
