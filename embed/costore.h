@@ -78,7 +78,7 @@ enum {
     COSTORE_MISSING = -5,    /* no object has this name */
     COSTORE_FULL = -6,       /* as many names are live as there can be: NAMES, or 5 of 7 in a file with digests */
     COSTORE_WORN = -7,       /* the file was saved too often, 2^61 times */
-    COSTORE_DISK = -8,       /* the log, or the room, was too small: the store is broken, for reads too */
+    COSTORE_DISK = -8,       /* the log was too small, or the room of a batch: the store is broken, for reads too */
     COSTORE_SHORT = -9,      /* the bytes don't fit where they are to go, or there are fewer than asked for */
     COSTORE_NO_MEMORY = -10, /* malloc gave no memory */
     COSTORE_TOO_MANY = -11,  /* more names are live than a file with digests can have */
@@ -93,7 +93,7 @@ enum {
     COSTORE_NO_BATCH = -20,  /* the object COSTORE_BATCH is not a batch */
     COSTORE_PENDING = -21,   /* the file keeps an unfinished batch: costore_finish comes first */
     COSTORE_MORE_NAMES = -22,/* the dump has more objects than the store is to have names */
-    COSTORE_NO_ROOM = -23    /* the room is too small for so many bytes of objects */
+    COSTORE_NO_ROOM = -23    /* the room is too small for so many bytes of objects, or for the head of a new file */
     /* -100 to -103 are answers of costore_file.h */
 };
 
@@ -165,8 +165,9 @@ int32_t costore_open(costore *store);
    k:     K, 2 to 64. A larger k makes a smaller file and more moves.
    names: NAMES, 16 to 65,536: how many names can be live. Each takes 160 bytes of the file.
 
-   COSTORE_DONE; COSTORE_BAD_NUMBER or COSTORE_NOT_NEW, and the handle stays as it is. Else the handle is closed:
-   COSTORE_NO_MEMORY; COSTORE_DISK. If you crash while replaying the log, the file is no store, or an empty store. */
+   COSTORE_DONE; COSTORE_BAD_NUMBER, COSTORE_NOT_NEW or COSTORE_NO_ROOM (for the head), and the handle stays as it is.
+   Else the handle is closed: COSTORE_NO_MEMORY; COSTORE_DISK. If you crash while replaying the log, the file is no
+   store, or an empty store. */
 int32_t costore_format(costore *store, uint64_t k, uint64_t names);
 
 /* Makes a store in a file of length 0 that has the objects of a dump, and opens it.
@@ -177,6 +178,7 @@ int32_t costore_format(costore *store, uint64_t k, uint64_t names);
 
    Answers as costore_format, and, with the handle closed: COSTORE_LINE (the text isn't a dump; *number is the object at
    which it stops being one, from 1, or 0 for the first line); COSTORE_MORE_NAMES (*number is how many objects it has).
+   COSTORE_DISK says here that the log, or the room for the objects, is too small.
    If you crash while replaying the log, the file is no store, an empty store, or complete. */
 int32_t costore_load(costore *store, const uint8_t *text, size_t n, uint64_t k, uint64_t names, uint64_t *number);
 

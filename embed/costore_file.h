@@ -67,8 +67,10 @@ int32_t costore_file_open(costore_file_t *f, const char *path, uint64_t room, ui
    k, names: as of costore_format.
    room, log: the most bytes of the file, and of a log; costore_need computes them.
 
-   COSTORE_DONE, or else the file is closed: COSTORE_BAD_NUMBER; COSTORE_NOT_NEW (the file has bytes); COSTORE_DISK
-   (room or log is too small); COSTORE_NO_MEMORY; COSTORE_SYSTEM; COSTORE_LOCKED; COSTORE_NOT_A_FILE; COSTORE_GONE.
+   COSTORE_DONE, or else the file is closed: COSTORE_BAD_NUMBER; COSTORE_NOT_NEW (the file has bytes); COSTORE_NO_ROOM
+   (for the head); COSTORE_DISK (the log is too small, or the room for the objects of a dump); COSTORE_NO_MEMORY;
+   COSTORE_SYSTEM; COSTORE_LOCKED; COSTORE_NOT_A_FILE; COSTORE_GONE.
+
    Where the library refuses, no file is made. After COSTORE_SYSTEM and COSTORE_GONE a new file can be left, empty or
    partly written: cut it to length 0, or remove it, before the next try. */
 int32_t costore_file_format(costore_file_t *f, const char *path, uint64_t k, uint64_t names, uint64_t room,

@@ -223,32 +223,69 @@ static void streams(const char *path) {
     costore_free(&bare);
 }
 
-/* A file with too small a room, or a log that is too small: nothing is replayed, and the store is broken. */
-static void small(const char *path) {
+/* A file with too small a room: a change is refused, and nothing else is. */
+static void small_room(const char *path) {
     static const uint8_t object[2000];
     costore_file_t f;
-    costore bare = {0};
-    uint8_t out[16];
-    uint64_t size = 0, at;
+    costore_counts counts = {0}, again = {0};
+    uint64_t size = 0, number = 77;
     is("open, small room", costore_file_open(&f, path, 0, 1 << 20), COSTORE_DONE);
-    is("put, room too small", costore_file_put(&f, TEXT("z"), object, sizeof object), COSTORE_DISK);
-    is("put, broken", costore_file_put(&f, TEXT("z"), TEXT("z")), COSTORE_BROKEN);
-    is("get, broken", costore_file_get(&f, TEXT("a"), out, sizeof out, &size), COSTORE_BROKEN);
-    is("back, broken", costore_file_back(&f), COSTORE_BROKEN);
-    is("position, broken", costore_file_position(&f, TEXT("a"), &at, &size), COSTORE_BROKEN);
+    is("stat", costore_file_stat(&f, &counts), COSTORE_DONE);
+    is("put, room too small", costore_file_put(&f, TEXT("z"), object, sizeof object), COSTORE_NO_ROOM);
+    is("begin, room too small", costore_file_begin_put(&f, TEXT("z"), object, sizeof object), COSTORE_NO_ROOM);
+    is("none is in hand", costore_file_in_hand(&f), 0);
+    is("put, another cause", costore_file_put(&f, TEXT("a b"), object, sizeof object), COSTORE_BAD_NAME);
+    is("del, another cause", costore_file_del(&f, TEXT("z")), COSTORE_MISSING);
+    is("begin, another cause", costore_file_begin_del(&f, TEXT("z")), COSTORE_MISSING);
+    is("size, as before", costore_file_size(&f, TEXT("z"), &size), COSTORE_MISSING);
+    is("stat", costore_file_stat(&f, &again), COSTORE_DONE);
+    is("as before", memcmp(&counts, &again, sizeof counts), 0);
+    is("keep, not broken", costore_file_keep(&f), COSTORE_KEPT);
+    is("upgrade, not broken", costore_file_upgrade(&f), COSTORE_KEPT);
+    is("back, not broken", costore_file_back(&f), COSTORE_DONE);
+    is("batch, not broken", costore_file_batch(&f, TEXT(""), &number), COSTORE_DONE);
     is("close", costore_close(&f.store), COSTORE_DONE);
     is("close, closed", costore_close(&f.store), COSTORE_CLOSED);
-    is("position, closed", costore_position(&f.store, TEXT("a"), &at, &size), COSTORE_CLOSED);
+    is("position, closed", costore_position(&f.store, TEXT("a"), &size, &number), COSTORE_CLOSED);
     is("in hand, closed", costore_in_hand(&f.store), 0);
     is("put, closed", costore_put(&f.store, TEXT("z"), TEXT("z")), COSTORE_CLOSED);
     is("format, closed", costore_format(&f.store, 9, 64), COSTORE_NOT_NEW);
     is("open, closed", costore_open(&f.store), COSTORE_NOT_NEW);
+    costore_file_close(&f);
+}
+
+/* A log that is too small: the store is broken, for reads too. */
+static void small_log(const char *path) {
+    static const uint8_t object[2000];
+    costore_file_t f;
+    costore bare = {0};
+    costore_facts facts;
+    costore_counts counts;
+    uint8_t out[16];
+    uint64_t size = 77, at = 77;
+    is("open, to copy", costore_file_open(&f, path, 1 << 20, 1 << 20), COSTORE_DONE);
     ssize_t n = pread(f.fd, memory, sizeof memory, 0);
     costore_file_close(&f);
     is("new, small log", lend(&bare, sizeof memory, (uint64_t)n, 1000), COSTORE_DONE);
     is("open, small log", costore_open(&bare), COSTORE_DONE);
     is("put, log too small", costore_put(&bare, TEXT("z"), object, sizeof object), COSTORE_DISK);
+    is("put, broken", costore_put(&bare, TEXT("z"), TEXT("z")), COSTORE_BROKEN);
+    is("del, broken", costore_del(&bare, TEXT("a")), COSTORE_BROKEN);
+    is("keep, broken", costore_keep(&bare), COSTORE_BROKEN);
+    is("upgrade, broken", costore_upgrade(&bare), COSTORE_BROKEN);
+    is("back, broken", costore_back(&bare), COSTORE_BROKEN);
+    is("begin, broken", costore_begin_put(&bare, TEXT("z"), TEXT("z")), COSTORE_BROKEN);
     is("get, broken", costore_get(&bare, TEXT("a"), out, sizeof out, &size), COSTORE_BROKEN);
+    is("old, broken", costore_old(&bare, TEXT("a"), out, sizeof out, &size), COSTORE_BROKEN);
+    is("read, broken", costore_read(&bare, TEXT("a"), 0, out, sizeof out, &size), COSTORE_BROKEN);
+    is("size, broken", costore_size(&bare, TEXT("a"), &size), COSTORE_BROKEN);
+    is("position, broken", costore_position(&bare, TEXT("a"), &at, &size), COSTORE_BROKEN);
+    is("next, broken", costore_next(&bare, TEXT("a"), out, sizeof out, &at, &size), COSTORE_BROKEN);
+    is("list, broken", costore_list(&bare, out, sizeof out, &size), COSTORE_BROKEN);
+    is("stat, broken", costore_stat(&bare, &counts), COSTORE_BROKEN);
+    is("info, broken", costore_info(&bare, &facts), COSTORE_BROKEN);
+    is("dump, broken", costore_dump(&bare, out, sizeof out, &size), COSTORE_BROKEN);
+    is("nothing is written", at == 77 && size == 77, 1);
     costore_free(&bare);
 }
 
@@ -263,8 +300,14 @@ static void regions(void) {
     is("nothing is written", bare.at == NULL, 1);
     is("new", lend(&bare, 8, 0, 8), COSTORE_DONE);
     is("format, bad number", costore_format(&bare, 1, 1024), COSTORE_BAD_NUMBER);
-    is("format, small room", costore_format(&bare, 9, 1024), COSTORE_DISK);
+    is("format, small room", costore_format(&bare, 9, 1024), COSTORE_NO_ROOM);
+    is("load, small room", costore_load(&bare, TEXT("dump"), 9, 1024, &number), COSTORE_NO_ROOM);
+    is("open, no store", costore_open(&bare), COSTORE_NO_STORE);
     is("open, closed", costore_open(&bare), COSTORE_NOT_NEW);
+    costore_free(&bare);
+    is("new, small log", lend(&bare, sizeof memory, 0, 8), COSTORE_DONE);
+    is("format, small log", costore_format(&bare, 9, 64), COSTORE_DISK);
+    is("format, closed", costore_format(&bare, 9, 64), COSTORE_NOT_NEW);
     costore_free(&bare);
     is("new, just fits", lend(&bare, 8, 8, 8), COSTORE_DONE);
     is("nothing is touched", memory[0] == 'm' && memory[7] == 'm' && noted[0] == 'n', 1);
@@ -310,7 +353,8 @@ int main(int argc, char **argv) {
     changes(&f);
     costore_file_close(&f);
     is("format again", costore_file_format(&f, argv[1], 9, 64, 1 << 22, 1 << 20), COSTORE_NOT_NEW);
-    small(argv[1]);
+    small_log(argv[1]);
+    small_room(argv[1]);
     is("open again", costore_file_open(&f, argv[1], 1 << 22, 1 << 20), COSTORE_DONE);
     costore_file_close(&f);
     printf("%d passed, %d failed\n", passed, failed);

@@ -181,6 +181,85 @@ static void objects(void) {
     munmap(none, most + 1), munmap(zeros, most), munmap(file.at, volume), munmap(log.at, longest);
 }
 
+/* ---- rooms ---- */
+
+enum { HELD = 12, VOLUME = 40000, LARGEST = 5000, CHANGES = 400 };
+
+static size_t held[HELD];
+
+static unsigned drawn(void) {
+    static unsigned state = 3;
+    state = state * 1664525u + 1013904223u;
+    return state >> 8;
+}
+
+/* Puts an object by steps, and remembers its size. */
+static int32_t put_held(costore *store, size_t i, size_t size) {
+    static const uint8_t object[LARGEST];
+    uint8_t name[2] = {'h', (uint8_t)('a' + i)};
+    int32_t code = costore_begin_put(store, name, 2, object, size);
+    while (code == COSTORE_IN_HAND || code == COSTORE_MOVED)
+        code = costore_step(store);
+    if (code >= COSTORE_DONE)
+        held[i] = size;
+    return code;
+}
+
+static size_t sum_held(void) {
+    size_t sum = 0;
+    for (size_t i = 0; i < HELD; i++)
+        sum += held[i];
+    return sum;
+}
+
+/* With as much room and log as costore_need says, each change within its bounds is made, by steps. */
+static void within(costore *store) {
+    int refused = 0;
+    for (int i = 0; i < CHANGES; i++) {
+        size_t which = drawn() % HELD, size = drawn() % (LARGEST + 1), left = VOLUME - (sum_held() - held[which]);
+        refused += put_held(store, which, i % 3 == 0 || size > left ? (left < LARGEST ? left : LARGEST) : size) < 0;
+    }
+    is("need", "no change is refused", refused, 0);
+}
+
+/* Beyond them a change is refused for its room, sooner or later. Then nothing was changed, and once there is less, it is
+   made. */
+static void beyond(costore *store) {
+    costore_counts counts = {0}, again = {0};
+    int32_t code = COSTORE_DONE;
+    size_t i = 0;
+    for (; i < HELD && code >= COSTORE_DONE; i++)
+        code = put_held(store, i, LARGEST);
+    is("beyond", "no room", code, COSTORE_NO_ROOM);
+    is("beyond", "more than was asked for", sum_held() + LARGEST > VOLUME, 1);
+    is("beyond", "none in hand", costore_in_hand(store), 0);
+    is("beyond", "stat", costore_stat(store, &counts), COSTORE_DONE);
+    is("beyond", "bytes", (int64_t)counts.bytes, (int64_t)sum_held());
+    is("beyond", "no room, in one call", costore_put(store, TEXT("other"), room, LARGEST), COSTORE_NO_ROOM);
+    is("beyond", "stat again", costore_stat(store, &again), COSTORE_DONE);
+    is("beyond", "as it was", memcmp(&counts, &again, sizeof counts), 0);
+    for (i = 0; i < HELD / 2; i++)
+        is("beyond", "less", put_held(store, i, 0) >= COSTORE_DONE, 1);
+    is("beyond", "made now", put_held(store, 0, LARGEST) >= COSTORE_DONE, 1);
+}
+
+static void rooms(void) {
+    static const uint64_t KS[] = {COSTORE_K_LEAST, 3, 9, COSTORE_K_MOST};
+    for (size_t i = 0; i < COUNT(KS); i++) {
+        costore store = {0};
+        uint64_t most = 0, longest = 0;
+        is("need", "rooms", costore_need(KS[i], HELD + 4, VOLUME, LARGEST, &most, &longest), COSTORE_DONE);
+        costore_region file = {malloc(most), most}, log = {malloc(longest), longest};
+        is("new", "rooms", costore_new(file, 0, log, &store), COSTORE_DONE);
+        is("format", "rooms", costore_format(&store, KS[i], HELD + 4), COSTORE_DONE);
+        memset(held, 0, sizeof held);
+        within(&store);
+        beyond(&store);
+        costore_free(&store);
+        free(file.at), free(log.at);
+    }
+}
+
 /* ---- the numbers of a file ---- */
 
 static const struct {
@@ -303,6 +382,7 @@ int main(void) {
     names();
     many();
     objects();
+    rooms();
     numbers();
     needs();
     shapes();
