@@ -57,8 +57,8 @@ uint32_t costore_version(void);
 /* ---- handles and answers ---- */
 
 /* A handle: one that has a file and no store yet, or one open store, or closed. Only costore_new and costore_free write
-   `at`. Calls that take a const handle change nothing, and many of them may use it at a time; any other call must be
-   the only one on its handle. */
+   `at`. One call at a time uses a handle, also of those that take it as const, which change nothing. Threads take turns
+   with it, under a lock. */
 typedef struct costore {
     void *at;
 } costore;
@@ -305,8 +305,7 @@ bool costore_in_hand(const costore *store);
 
 /* ---- reads ----
 
-   These change nothing and log nothing, and many of them may run at a time on one handle, while no other call does.
-   Where they refuse they write nothing, except as said. */
+   These change nothing and log nothing. Where they refuse they write nothing, except as said. */
 
 /* Writes how many bytes the object of a name has.
 

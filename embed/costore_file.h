@@ -121,8 +121,7 @@ int32_t costore_file_back(costore_file_t *f);
 
 /* ---- reads ----
 
-   Each answers as the call of the library does that has its name without `_file`. Many of them may run at a time on one
-   file, while no other call does. */
+   Each answers as the call of the library does that has its name without `_file`. */
 bool costore_file_in_hand(const costore_file_t *f);
 int32_t costore_file_size(const costore_file_t *f, const uint8_t *name, size_t n, uint64_t *size);
 int32_t costore_file_position(const costore_file_t *f, const uint8_t *name, size_t n, uint64_t *at, uint64_t *size);
