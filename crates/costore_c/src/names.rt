@@ -84,13 +84,7 @@ fn inform(open: &LentStore, info: &mut Info) -> i32
 }
 
 /// The next name of what is open.
-fn next(
-    open: &LentStore,
-    above: &[u8],
-    out: &mut [u8],
-    length: &mut u64,
-    size: &mut u64,
-) -> i32
+fn next(open: &LentStore, above: &[u8], out: &mut [u8], length: &mut u64, size: &mut u64) -> i32
     ensures { Names above.now (named out.old length.old size.old) (named out.new length.new size.new) open.now
         result }
 {

@@ -36,9 +36,9 @@ mod requests;
 pub mod slices;
 #[cfg(test)]
 mod stepped;
-pub mod trials;
 #[cfg(test)]
 mod told_facts;
+pub mod trials;
 #[cfg(test)]
 mod upgrades;
 #[cfg(test)]
