@@ -223,9 +223,11 @@ static void streams(const char *path) {
     costore_free(&bare);
 }
 
-/* A file with too small a room: a change is refused, and nothing else is. */
+/* A file with too small a room: a change is refused, and nothing else is. A batch is begun, and breaks the store. */
 static void small_room(const char *path) {
     static const uint8_t object[2000];
+    static uint8_t text[2100];
+    int n = sprintf((char *)text, "put z 2000\n") + 2000;
     costore_file_t f;
     costore_counts counts = {0}, again = {0};
     uint64_t size = 0, number = 77;
@@ -244,6 +246,9 @@ static void small_room(const char *path) {
     is("upgrade, not broken", costore_file_upgrade(&f), COSTORE_KEPT);
     is("back, not broken", costore_file_back(&f), COSTORE_DONE);
     is("batch, not broken", costore_file_batch(&f, TEXT(""), &number), COSTORE_DONE);
+    text[n] = '\n';
+    is("batch, room too small", costore_file_batch(&f, text, (size_t)n + 1, &number), COSTORE_DISK);
+    is("get, broken", costore_file_get(&f, TEXT("z"), text, sizeof text, &size), COSTORE_BROKEN);
     is("close", costore_close(&f.store), COSTORE_DONE);
     is("close, closed", costore_close(&f.store), COSTORE_CLOSED);
     is("position, closed", costore_position(&f.store, TEXT("a"), &size, &number), COSTORE_CLOSED);
