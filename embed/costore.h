@@ -65,7 +65,7 @@ typedef struct costore {
 
 /* Answers. At and above 0 the call was done. Below 0 nothing must be replayed, and an open store is as it was, except
    after COSTORE_DISK. Every call on a handle can answer COSTORE_CLOSED, except costore_open, costore_format,
-   costore_load and costore_in_hand; below it is listed for costore_close alone. */
+   costore_load and costore_in_hand; below it is listed for costore_close and costore_check alone. */
 enum {
     COSTORE_DONE = 0,        /* done; no checkpoint was saved */
     COSTORE_KEPT = 1,        /* done, and a checkpoint of the present state was saved */
@@ -189,12 +189,12 @@ int32_t costore_load(costore *store, const uint8_t *text, size_t n, uint64_t k, 
 int32_t costore_close(costore *store);
 
 /* Gives the handle back, with what it still holds: a store that is open is closed first. It sets store->at to null, and
-   does nothing if that is null already. The handle, and no copy of it, can be used again. */
+   does nothing if that is null already. *store can then be passed to costore_new again; a copy of it can't be used. */
 void costore_free(costore *store);
 
 /* What shows that a file is no store: the numbers of the program's fault lines.
 
-   kind 1: `slot NUMBER`, a fault of the two slots of the table.
+   kind 1: `slot NUMBER`, a fault of the two slots of the table; AT is 0.
    kind 2: `codec NUMBER at AT`, a fault of the bytes at a position of the file.
    kind 3: `rule NUMBER at AT`, a rule of the format that the table breaks, and where.
 

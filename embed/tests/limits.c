@@ -222,7 +222,7 @@ static void within(costore *store) {
     is("need", "no change is refused", refused, 0);
 }
 
-/* Beyond them a change is refused for its room, sooner or later. Then nothing was changed, and once there is less, it is
+/* Beyond them a change is refused for its room, sooner or later. Then nothing was changed; once there is less it is
    made. */
 static void beyond(costore *store) {
     costore_counts counts = {0}, again = {0};

@@ -69,6 +69,7 @@ static void upgraded(const char *path) {
     uint8_t name[16], object[MOST];
     costore_file_t f;
     costore_facts facts = {0};
+    uint64_t log = 77, file = 0;
     is("format", "upgrades", costore_file_format(&f, path, 9, NAMES, ROOM, LOG), COSTORE_DONE);
     is("info", "new", costore_file_info(&f, &facts) == COSTORE_DONE && facts.version == 1, 1);
     for (int i = 0; i < OBJECTS; i++) {
@@ -82,6 +83,7 @@ static void upgraded(const char *path) {
     is("del", "upgrades", costore_file_del(&f, TEXT("large")) >= COSTORE_DONE, 1);
     is("upgrade", "once", costore_file_upgrade(&f), COSTORE_KEPT);
     is("upgrade", "twice", costore_file_upgrade(&f), COSTORE_DONE);
+    is("upgrade", "logs nothing", costore_lengths(&f.store, &log, &file) == COSTORE_DONE && log == 0 && file > 0, 1);
     costore_file_close(&f);
     is("open", "upgraded", costore_file_open(&f, path, ROOM, LOG), COSTORE_DONE);
     is("info", "upgraded", costore_file_info(&f, &facts) == COSTORE_DONE && facts.version == 2, 1);
