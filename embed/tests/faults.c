@@ -1,5 +1,6 @@
 /* Lends files that break the format, each in one way, and compares what costore_check and costore_open answer with
-   docs/FORMAT.md: its table of refusals, and the examples of its rules. */
+   docs/FORMAT.md: its table of refusals, and the examples of its rules. faults FOLDER writes these files too, each with
+   the line that the program's `check` prints of it. */
 #include "costore.h"
 #include "counted.h"
 
@@ -169,7 +170,24 @@ static const struct {
     {"rule 12", moving, a_at_138, AS_IT_IS, 3, 12, 0},
 };
 
-static void row(size_t i) {
+/* Writes the file of a row, and beside it the line of its fault. */
+static void write_row(const char *folder, size_t i, uint64_t length) {
+    static const char *const LINES[] = {"", "slot %d\n", "codec %d at %d\n", "rule %d at %d\n"};
+    char path[4096];
+    snprintf(path, sizeof path, "%s/%d", folder, (int)i);
+    FILE *out = fopen(path, "w");
+    is("write", ROWS[i].name, out && fwrite(file, 1, length, out) == length && fclose(out) == 0, 1);
+    snprintf(path, sizeof path, "%s/%d.line", folder, (int)i);
+    out = fopen(path, "w");
+    is("write its line", ROWS[i].name, out != NULL, 1);
+    if (!out)
+        return;
+    fprintf(out, "fault store ");
+    fprintf(out, LINES[ROWS[i].kind], (int)ROWS[i].number, (int)ROWS[i].at);
+    fclose(out);
+}
+
+static void row(size_t i, const char *folder) {
     const char *name = ROWS[i].name;
     int32_t wanted = ROWS[i].kind == 0 ? COSTORE_DONE : COSTORE_NO_STORE;
     costore store = {0};
@@ -178,6 +196,8 @@ static void row(size_t i) {
     uint64_t length = HEAD + ROWS[i].breaks(ROWS[i].table());
     if (ROWS[i].length != AS_IT_IS)
         length = (uint64_t)ROWS[i].length;
+    if (folder && ROWS[i].kind > 0)
+        write_row(folder, i, length);
     is("new", name, costore_new(region, length, log, &store), COSTORE_DONE);
     is("check", name, costore_check(&store, &fault), wanted);
     is("kind", name, (int64_t)fault.kind, (int64_t)ROWS[i].kind);
@@ -218,9 +238,9 @@ static void kept(void) {
     costore_free(&store);
 }
 
-int main(void) {
+int main(int argc, char **argv) {
     for (size_t i = 0; i < COUNT(ROWS); i++)
-        row(i);
+        row(i, argc > 1 ? argv[1] : NULL);
     kept();
     return counted();
 }
