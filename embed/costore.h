@@ -286,8 +286,9 @@ int32_t costore_finish(costore *store, uint8_t *room, size_t m, uint64_t *number
    at once (COSTORE_DONE). For any other the flush is in hand (COSTORE_IN_HAND): call costore_step until it answers
    COSTORE_KEPT. The steps save checkpoints as a whole flush does, not only the last one.
 
-   While a flush is in hand costore_get, costore_size, costore_position and costore_list answer the state after the
-   change. costore_old, costore_stat, costore_dump and every change but costore_step answer COSTORE_BUSY.
+   While a flush is in hand costore_get, costore_read, costore_size, costore_position, costore_next, costore_list and
+   costore_info answer the state after the change. costore_old, costore_stat, costore_dump and every change but
+   costore_step answer COSTORE_BUSY.
 
    COSTORE_DONE; COSTORE_IN_HAND; else as of costore_put and costore_del. */
 int32_t costore_begin_put(costore *store, const uint8_t *name, size_t n, const uint8_t *object, size_t m);
