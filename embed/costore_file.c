@@ -26,9 +26,9 @@ typedef struct span_t {
     uint64_t from, to;
 } span_t;
 
-/* What is known of the region's pages that may have bytes of their own: how many are marked, and the two gaps of the
-   library. A gap is a part that the file grew by and nobody wrote yet. The library knows that the file has zeros there,
-   whatever the memory has. It knows two gaps: where there would be a third it writes zeros into the shortest. */
+/* What is known of the region's pages that may have bytes of their own: how many are marked, and which are the two gaps
+   of the library, parts that the file grew by and nobody wrote yet. It knows that the file has zeros there, whatever
+   the memory has. Where there would be a third, it fills the shortest (crates/lent_disk/src/gaps.rt). */
 struct costore_touched {
     uint64_t pages;
     span_t lower, upper;

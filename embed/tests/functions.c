@@ -79,8 +79,11 @@ static void changes(costore_file_t *f) {
 /* The texts of the log, the list and the file, and the numbers of what there is. */
 static void texts(costore_file_t *f) {
     uint8_t out[256], byte;
+    const uint8_t *bytes = NULL;
     uint64_t size = 0, log = 0, length = 0;
     costore_counts counts;
+    costore_facts facts;
+    costore_fault fault;
     is("put of a", costore_file_put(f, TEXT("a"), TEXT("one")) >= COSTORE_DONE, 1);
     is("put of b", costore_file_put(f, TEXT("b"), TEXT("four")) >= COSTORE_DONE, 1);
     is("list", costore_file_list(f, out, sizeof out, &size), COSTORE_DONE);
@@ -90,6 +93,15 @@ static void texts(costore_file_t *f) {
     is("list, too short", costore_file_list(f, out, 7, &size), COSTORE_SHORT);
     is("get, just fits", costore_file_get(f, TEXT("b"), out, 4, &size), COSTORE_DONE);
     is("keep", costore_file_keep(f), COSTORE_KEPT);
+    is("check", costore_file_check(f, &fault), COSTORE_DONE);
+    is("read", costore_file_read(f, TEXT("b"), 1, out, 2, &size), COSTORE_DONE);
+    is("its bytes", size == 2 && memcmp(out, "ou", 2) == 0, 1);
+    is("look", costore_file_look(f, TEXT("b"), &bytes, &size), COSTORE_DONE);
+    is("its bytes", size == 4 && memcmp(bytes, "four", 4) == 0, 1);
+    is("next", costore_file_next(f, TEXT("a"), out, sizeof out, &length, &size), COSTORE_DONE);
+    is("its name", length == 1 && out[0] == 'b' && size == 4, 1);
+    is("info", costore_file_info(f, &facts), COSTORE_DONE);
+    is("names of info", facts.live == 2 && facts.kept == 2 && facts.bytes == 7 && facts.names == 64, 1);
     is("stat", costore_file_stat(f, &counts), COSTORE_DONE);
     is("names", (int64_t)counts.names, 2);
     is("bytes", (int64_t)counts.bytes, 7);
