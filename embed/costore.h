@@ -58,7 +58,7 @@ uint32_t costore_version(void);
 
 /* A handle: one that has a file and no store yet, or one open store, or closed. Only costore_new and costore_free write
    `at`. One call at a time uses a handle, also of those that take it as const, which change nothing. Threads take turns
-   with it, under a lock. */
+   with it, under a lock. No pointer that is passed to a call is null, also where it stands for 0 bytes. */
 typedef struct costore {
     void *at;
 } costore;

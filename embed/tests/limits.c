@@ -104,7 +104,7 @@ static void names(void) {
         is("a name's length", "size", costore_size(&store, name, length, &size),
            fits ? COSTORE_DONE : COSTORE_BAD_NAME);
         if (length == COSTORE_NAME_MOST) {
-            is("the longest name", "next", costore_next(&store, NULL, 0, found, sizeof found, &n, &size), COSTORE_DONE);
+            is("the longest name", "next", costore_next(&store, TEXT(""), found, sizeof found, &n, &size), COSTORE_DONE);
             is("the longest name", "its length", (int64_t)n, COSTORE_NAME_MOST);
         }
         if (fits)
