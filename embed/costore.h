@@ -122,8 +122,8 @@ int32_t costore_shape_of(const uint8_t *front, size_t n, costore_shape *shape);
    k, names: as of costore_format; costore_shape_of reads them in an existing file.
    volume:   the most bytes that all objects have together, below 2^48.
    largest:  the most bytes that one object has, at most COSTORE_OBJECT_MOST.
-   room:     written: the bytes for the file. With so many no change of objects within these bounds answers
-             COSTORE_NO_ROOM.
+   room:     written: the bytes for the file. With so many no change answers COSTORE_NO_ROOM, as long as the objects of
+             the store always were within these bounds.
    log:      written: the bytes for the log of a put or a removal that moves nothing, a begin, a step or a keep. A whole
              flush can need more, and so can a batch, a load, and the opening of a file that was interrupted within a
              flush.
@@ -230,7 +230,8 @@ int32_t costore_put(costore *store, const uint8_t *name, size_t n, const uint8_t
    buffers; it then answers COSTORE_KEPT.
 
    COSTORE_DONE; COSTORE_KEPT; COSTORE_BUSY; COSTORE_BROKEN; COSTORE_BAD_NAME; COSTORE_MISSING; COSTORE_WORN;
-   COSTORE_NO_ROOM (only of a store that was opened with less room than it needs); COSTORE_DISK. */
+   COSTORE_NO_ROOM (only where the room is less than the store needs as it is: after an opening, a load or a batch);
+   COSTORE_DISK. */
 int32_t costore_del(costore *store, const uint8_t *name, size_t n);
 
 /* Saves a checkpoint of the present state. It writes 80 bytes for each live name (112 with digests) and syncs three
