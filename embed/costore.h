@@ -57,8 +57,12 @@ uint32_t costore_version(void);
 /* ---- handles and answers ---- */
 
 /* A handle: one that has a file and no store yet, or one open store, or closed. Only costore_new and costore_free write
-   `at`. One call at a time uses a handle, also of those that take it as const, which change nothing. Threads take turns
-   with it, under a lock. No pointer that is passed to a call is null, also where it stands for 0 bytes. */
+   `at`. No pointer that is passed to a call is null, also where it stands for 0 bytes.
+
+   Calls that take a handle as const write nothing to it, and may run at the same time as each other, also on one
+   handle. Any other call needs the handle for itself, until its log is replayed. So threads take a lock for readers and
+   a writer: calls that take the handle as const under its shared side, all else alone. What a call writes to through
+   its other parameters must be distinct from all that the calls beside it are passed. */
 typedef struct costore {
     void *at;
 } costore;
@@ -156,8 +160,8 @@ int32_t costore_new(costore_region file, uint64_t length, costore_region log, co
    that.
 
    COSTORE_DONE; COSTORE_NOT_NEW, and the handle stays as it is. Else the handle is closed: COSTORE_NO_STORE;
-   COSTORE_NO_MEMORY; COSTORE_DISK (the log is too small for that flush: replay nothing, and lend the file's bytes anew
-   with a larger log). */
+   COSTORE_NO_MEMORY; COSTORE_DISK (the log is too small for that flush, or has fewer than the 34 bytes of a cut:
+   replay nothing, and lend the file's bytes anew with a larger log). */
 int32_t costore_open(costore *store);
 
 /* Makes a store without names in a file of length 0, and opens it.
@@ -166,8 +170,8 @@ int32_t costore_open(costore *store);
    names: NAMES, 16 to 65,536: how many names can be live. Each takes 160 bytes of the file.
 
    COSTORE_DONE; COSTORE_BAD_NUMBER, COSTORE_NOT_NEW or COSTORE_NO_ROOM (for the head), and the handle stays as it is.
-   Else the handle is closed: COSTORE_NO_MEMORY; COSTORE_DISK. If you crash while replaying the log, the file is no
-   store, or an empty store. */
+   Else the handle is closed: COSTORE_NO_MEMORY; COSTORE_DISK (the log has fewer than 260 bytes). If you crash while
+   replaying the log, the file is no store, or an empty store. */
 int32_t costore_format(costore *store, uint64_t k, uint64_t names);
 
 /* Makes a store in a file of length 0 that has the objects of a dump, and opens it.
@@ -370,6 +374,7 @@ typedef struct costore_facts {
     uint64_t sequence;         /* of the last checkpoint */
     uint64_t file, room;       /* how many bytes the file has, and how many it can have */
     uint64_t moves_left;       /* how many steps of the flush in hand are left at most; 0 if none is in hand */
+    uint64_t bytes_left;       /* how many bytes of objects they move at most; 0 if none is in hand */
 } costore_facts;
 
 /* Writes them, also while a flush is in hand.

@@ -32,7 +32,10 @@ extern "C" {
 
 /* An open file. The fields are its own, except for `before`, which a test can set: it is called before each call of the
    system in a replay, and in what makes the region show the file again. `store` can be passed to the calls of costore.h
-   that take a const handle. */
+   that take a const handle.
+
+   Calls that take an open file as const may run at the same time as each other, also on one file. Any other call needs
+   the file for itself, as costore.h says of a handle. */
 typedef struct costore_file_t {
     costore store;
     int fd;

@@ -307,6 +307,29 @@ static void small_log(const char *path) {
 }
 
 /* Handles over regions that have no store, and stores that are made in memory which isn't zeros. */
+/* A log that is one byte too small for a format, and for the cut of a file that is a byte longer than its layout. */
+static void small_logs(void) {
+    enum { NAMES = 64, HEAD = 17043 + 160 * NAMES };
+    costore bare = {0};
+    memset(memory, 0, sizeof memory);
+    is("new, log of 259", lend(&bare, HEAD, 0, 259), COSTORE_DONE);
+    is("format, log of 259", costore_format(&bare, 9, NAMES), COSTORE_DISK);
+    is("format, closed", costore_format(&bare, 9, NAMES), COSTORE_NOT_NEW);
+    costore_free(&bare);
+    is("new, log of 260", lend(&bare, HEAD, 0, 260), COSTORE_DONE);
+    is("format, log of 260", costore_format(&bare, 9, NAMES), COSTORE_DONE);
+    costore_free(&bare);
+    is("new, no cut", lend(&bare, HEAD, HEAD, 0), COSTORE_DONE);
+    is("open, no log", costore_open(&bare), COSTORE_DONE);
+    costore_free(&bare);
+    is("new, log of 33", lend(&bare, HEAD + 1, HEAD + 1, 33), COSTORE_DONE);
+    is("open, log of 33", costore_open(&bare), COSTORE_DISK);
+    costore_free(&bare);
+    is("new, log of 34", lend(&bare, HEAD + 1, HEAD + 1, 34), COSTORE_DONE);
+    is("open, log of 34", costore_open(&bare), COSTORE_DONE);
+    costore_free(&bare);
+}
+
 static void regions(void) {
     costore bare = {0};
     uint8_t out[16];
@@ -322,10 +345,9 @@ static void regions(void) {
     is("open, no store", costore_open(&bare), COSTORE_NO_STORE);
     is("open, closed", costore_open(&bare), COSTORE_NOT_NEW);
     costore_free(&bare);
-    is("new, small log", lend(&bare, sizeof memory, 0, 8), COSTORE_DONE);
-    is("format, small log", costore_format(&bare, 9, 64), COSTORE_DISK);
-    is("format, closed", costore_format(&bare, 9, 64), COSTORE_NOT_NEW);
-    costore_free(&bare);
+    small_logs();
+    memset(memory, 'm', sizeof memory);
+    memset(noted, 'n', sizeof noted);
     is("new, just fits", lend(&bare, 8, 8, 8), COSTORE_DONE);
     is("nothing is touched", memory[0] == 'm' && memory[7] == 'm' && noted[0] == 'n', 1);
     is("put, no store yet", costore_put(&bare, TEXT("a"), TEXT("b")), COSTORE_CLOSED);

@@ -131,15 +131,32 @@ static void all(const costore_file_t *f) {
     refused(f);
 }
 
-/* Begins a flush, and reads the object that asked for it, and another one, between all its steps. */
+/* Writes where each object stands, the long one behind the others; and answers how many bytes those have that stood
+   elsewhere. */
+static uint64_t moved_since(const costore_file_t *f, uint64_t places[COUNT(SORTED) + 1]) {
+    uint64_t moved = 0, at = 0, size = 0;
+    for (size_t i = 0; i <= COUNT(SORTED); i++) {
+        const char *name = i < COUNT(SORTED) ? SORTED[i].name : "long";
+        if (costore_file_position(f, TEXT(name), &at, &size) != COSTORE_DONE)
+            return UINT64_MAX;
+        moved += at == places[i] ? 0 : size;
+        places[i] = at;
+    }
+    return moved;
+}
+
+/* Begins a flush, and reads the object that asked for it, and another one, between all its steps. Each step leaves as
+   many bytes fewer as it moved. */
 static void in_hand(costore_file_t *f) {
     uint8_t object[LONG], name[COSTORE_NAME_MOST];
-    uint64_t n = 0, size = 0, steps = 0;
+    uint64_t n = 0, size = 0, steps = 0, left = 0, places[COUNT(SORTED) + 1] = {0};
     costore_facts facts = {0};
     for (size_t i = 0; i < sizeof object; i++)
         object[i] = (uint8_t)(i * 7);
     is("begin", "a long object", costore_file_begin_put(f, TEXT("long"), object, sizeof object), COSTORE_IN_HAND);
+    moved_since(f, places);
     do {
+        uint64_t moved = moved_since(f, places);
         pairs(f, "long", object, sizeof object);
         look(f, "long", object, sizeof object);
         look(f, "a", (const uint8_t *)NINE, 9);
@@ -148,11 +165,16 @@ static void in_hand(costore_file_t *f) {
         is("info, in hand", "long", costore_file_info(f, &facts), COSTORE_DONE);
         is("info, in hand: names", "long", (int64_t)facts.live, COUNT(SORTED) + 1);
         is("info, in hand: steps", "long", facts.moves_left > 0 && facts.moves_left + steps <= 2 * facts.live + 1, 1);
+        is("info, in hand: bytes", "long", (int64_t)facts.bytes_left,
+           (int64_t)(steps == 0 ? 2 * facts.bytes : left - moved));
+        is("info, in hand: moved", "long", (moved > 0) == (steps > 0), 1);
+        left = facts.bytes_left;
         steps++;
     } while (costore_file_step(f) == COSTORE_MOVED);
     is("steps", "long", !costore_file_in_hand(f) && steps > 1, 1);
     is("info, settled", "long", costore_file_info(f, &facts), COSTORE_DONE);
     is("info, settled: steps", "long", (int64_t)facts.moves_left, 0);
+    is("info, settled: bytes left", "long", (int64_t)facts.bytes_left, 0);
     all(f);
     is("del", "long", costore_file_del(f, TEXT("long")) >= COSTORE_DONE, 1);
 }

@@ -28,6 +28,7 @@ info_of e =
       file = length (file_in e);
       room = e.noting.room;
       moves_left = facts.moves_left;
+      bytes_left = facts.bytes_left;
     }
 
 -- it was told; a broken store tells nothing

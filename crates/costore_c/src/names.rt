@@ -22,6 +22,7 @@ pub struct Info {
     pub file: u64,
     pub room: u64,
     pub moves_left: u64,
+    pub bytes_left: u64,
 }
 
 /// Writes what there is to tell of a store, also while a flush is in hand. At a refusal nothing is written.
@@ -79,6 +80,7 @@ fn inform(open: &LentStore, info: &mut Info) -> i32
         file: open.end(),
         room: open.room(),
         moves_left: facts.moves_left,
+        bytes_left: facts.bytes_left,
     };
     DONE
 }

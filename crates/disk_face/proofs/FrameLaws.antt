@@ -1,9 +1,9 @@
 -- How the frames of two calls join.
-use Rattle.std.specs.Prelude.{IsTrue, refl}
+use Rattle.std.specs.Prelude.{ℕ, ◌+◌, ◌≤◌, IsTrue, refl}
 use Rattle.std.proofs.Common.{arith, ◌∙◌, sym, subst}
 use Rattle.disk_face.specs.States.{State}
 use Rattle.disk_face.proofs.MomentLaws.{Leaves-none, Leaves-trans, Leaves-weaken}
-use Rattle.disk_face.specs.Frames.{Stays, Unchanged, Untouched}
+use Rattle.disk_face.specs.Frames.{Asks, Stays, Unchanged, Untouched}
 use Rattle.disk_face.specs.Writes.{KeepsDisk}
 
 pub Stays-trans : {a b c : State} → Stays a b → Stays b c → Stays a c
@@ -14,6 +14,18 @@ Stays-trans ab bc = record {
   same_mount = bc.same_mount ∙ ab.same_mount;
 }
 
+-- what is asked by one call after another
+pub asks_then : {a b c : State} {n m p q most least : ℕ} → Asks n p a b → Asks m q b c → n + m ≤ least
+    → p ≤ most → q ≤ most → Asks least most a c
+asks_then one more fits low high = record {
+  weight = omega (arith, one.weight, more.weight, fits);
+  longest = omega (arith, one.longest, more.longest, low, high);
+}
+
+-- nothing is asked where no call was made
+pub asks_nothing : (a : State) → Asks 0 0 a a
+asks_nothing a = record { weight = omega arith; longest = omega arith }
+
 -- one call after another
 pub Unchanged-trans : {a b c : State} → Unchanged a b → Unchanged b c → Unchanged a c
 Unchanged-trans {a} ab bc = record {
@@ -23,6 +35,7 @@ Unchanged-trans {a} ab bc = record {
   same_turn = bc.same_turn ∙ ab.same_turn;
   later = omega (arith, ab.later, bc.later);
   stays = Stays-trans ab.stays bc.stays;
+  asks = asks_then ab.asks bc.asks (omega arith) (omega arith) (omega arith);
 }
 
 -- a call on an open file, after one that opened it
@@ -46,6 +59,7 @@ unchanged_itself a ready = record {
   same_turn = refl;
   later = omega arith;
   stays = record { ready = ready; told = refl; images_told = refl; same_mount = refl };
+  asks = asks_nothing a;
 }
 
 pub untouched : {a b : State} → Unchanged a b → Untouched a b

@@ -4,7 +4,7 @@ use Rattle.std.proofs.Common.{arith, inl, inr, ◌∙◌, sym, subst}
 use Rattle.byte_ranges.proofs.RangeLaws.{SameOutside-trans, SameOutside-wider}
 use Rattle.disk_face.specs.Moments.{Elapses, NoMore}
 use Rattle.disk_face.specs.States.{State}
-use Rattle.disk_face.proofs.FrameLaws.{Stays-trans}
+use Rattle.disk_face.proofs.FrameLaws.{Stays-trans, asks_then}
 use Rattle.disk_file.specs.Hosts.{Marks}
 use Rattle.disk_file.proofs.Steps.{rest_of, length-rest_of}
 use Rattle.disk_file.specs.Parts.{WritesPart}
@@ -36,6 +36,7 @@ part-wider {at} {n} at' n' {a} {b} low high ab = record {
   time = ab.time;
   same_turn = ab.same_turn;
   stays = ab.stays;
+  asks = ab.asks;
 }
 
 pub part-trans : {at n : ℕ} {a b c : State} → WritesPart at n a b → WritesPart at n b c → WritesPart at n a c
@@ -48,6 +49,7 @@ part-trans {at} {n} {a} {b} {c} ab bc = record {
   time = Elapses-then c.may_leave bc.grows (λ image is. is) ab.time bc.time;
   same_turn = bc.same_turn ∙ ab.same_turn;
   stays = Stays-trans ab.stays bc.stays;
+  asks = asks_then ab.asks bc.asks (omega arith) (omega arith) (omega arith);
 }
 
 -- marks that stay say of failing calls what they said

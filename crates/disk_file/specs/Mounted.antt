@@ -74,6 +74,8 @@ untold turns is_open =
       left_since = λ _. no_image;
       turn = min turns last;
       faults = 0;
+      weight = 0;
+      longest = 0;
       is_ready = is_open;
       last_mount = None;
     }

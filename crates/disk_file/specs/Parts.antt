@@ -1,8 +1,8 @@
--- What one call of the system does to a file, as a part of a call of a disk.
+-- What one call of the system does to a file, as a part of a call of a disk. What is asked isn't counted.
 use Rattle.std.specs.Prelude.{◌≡◌, ℕ, IsTrue}
 use Rattle.byte_ranges.specs.Ranges.{SameOutside}
 use Rattle.disk_face.specs.Counts.{counted}
-use Rattle.disk_face.specs.Frames.{Stays}
+use Rattle.disk_face.specs.Frames.{Asks, Stays}
 use Rattle.disk_face.specs.Moments.{Elapses, Follows, NoMore, ResizedImage}
 use Rattle.disk_face.specs.States.{State}
 
@@ -14,6 +14,7 @@ pub record WritesPart (at n : ℕ) (old new : State) : Type 0 where
   pub time : Elapses old new new.may_leave
   pub same_turn : new.turn ≡ old.turn
   pub stays : Stays old new
+  pub asks : Asks 0 0 old new
 
 -- a change of the length to n
 pub record ResizesPart (n : ℕ) (old new : State) : Type 0 where
@@ -21,6 +22,7 @@ pub record ResizesPart (n : ℕ) (old new : State) : Type 0 where
   pub time : Elapses old new new.may_leave
   pub same_turn : new.turn ≡ old.turn
   pub stays : Stays old new
+  pub asks : Asks 0 0 old new
 
 -- a sync, failed or not
 pub record SyncsPart (old new : State) : Type 0 where
@@ -29,6 +31,7 @@ pub record SyncsPart (old new : State) : Type 0 where
   pub time : Elapses old new old.may_leave
   pub same_turn : new.turn ≡ old.turn
   pub stays : Stays old new
+  pub asks : Asks 0 0 old new
 
 -- A call of a disk has ended: nothing is changed, and the next turn begins.
 pub record EndsCall (old new : State) : Type 0 where
@@ -38,3 +41,4 @@ pub record EndsCall (old new : State) : Type 0 where
   pub time : Elapses old new new.may_leave
   pub one_turn : new.turn ≡ counted old.turn 1
   pub stays : Stays old new
+  pub asks : Asks 0 0 old new

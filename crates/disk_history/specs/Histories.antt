@@ -70,6 +70,8 @@ history_state h =
       left_since = LeftSince h;
       turn = min h.turn last;
       faults = h.faults;
+      weight = 0;
+      longest = 0;
       is_ready = true;
       last_mount = None;
     }

@@ -33,6 +33,8 @@ plain_state d =
       left_since = λ _. no_image;
       turn = min d.turn last;
       faults = d.faults;
+      weight = 0;
+      longest = 0;
       is_ready = true;
       last_mount = None;
     }

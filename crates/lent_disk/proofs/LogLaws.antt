@@ -1,14 +1,12 @@
 -- How a log goes on from call to call.
-use Rattle.std.proofs.Common.{◌≡◌, ◌∙◌, ap, sym, subst, refl, arith, ℕ, List, [], ◌∷◌, ◌++◌, length}
-use Rattle.std.specs.Prelude.{◌+◌, ◌≤◌, ◌-◌, ◌^◌, if◌then◌else◌}
-use Rattle.std.proofs.lemmas.Bool.{le-leb}
-use Rattle.byte_ranges.specs.Ranges.{overwritten}
-use Rattle.disk_history.specs.Changes.RecordedCall.{Wrote}
+use Rattle.std.proofs.Common.{◌≡◌, ◌∙◌, ap, sym, subst, refl, arith, rules, inl, inr, length-append, ℕ, List, [], ◌∷◌, ◌++◌, length}
+use Rattle.std.specs.Prelude.{◌⊎◌, ◌+◌, ◌<◌, ◌≤◌, ◌-◌, ◌^◌}
+use Rattle.disk_history.specs.Changes.RecordedCall.{Sized, Synced, Wrote}
 use Rattle.disk_history.specs.Changes.{RecordedCall, Stamped, changed, content_after}
-use Rattle.disk_history.specs.Histories.{History, EndedBy, done, file_of, fresh, undone}
-use Rattle.disk_history.proofs.HistoryLaws.{EndedBy_later, changed_within}
-use Rattle.lent_disk.specs.Calls.{FitsEntry, IsWithin, replayed, spelled}
-use Rattle.lent_disk.specs.Notings.{Noting, IsLog, IsNoting, changes}
+use Rattle.disk_history.specs.Histories.{History, done, file_of, undone}
+use Rattle.disk_history.proofs.HistoryLaws.{EndedBy_later}
+use Rattle.lent_disk.specs.Calls.{FitsEntry, IsWithin, length_by, longest_in, replayed, spelled, weight_in, weight_of}
+use Rattle.lent_disk.specs.Notings.{Noting, IsLog, IsNoting, LacksSpace, changes, made, refused}
 
 -- calls after others, from what was synced at first
 pub content_replayed : (base : List ℕ) (calls earlier : List Stamped)
@@ -52,34 +50,61 @@ log_undone start h text few l = record {
   since = l.since;
 }
 
+-- a call is spelled by as many bytes as it weighs
+length_spelled : (call : RecordedCall) → length (spelled call) ≡ weight_of call
+length_spelled (Wrote at bytes) = search rules
+length_spelled (Sized n) = search rules
+length_spelled Synced = search rules
+
+-- where there was no room for what was asked for, there is none with one call more
+lacks_more : (call : RecordedCall) (asked : List RecordedCall) (log_room room : ℕ)
+    → (log_room < weight_in asked) ⊎ (room < longest_in asked)
+    → (log_room < weight_in (call ∷ asked)) ⊎ (room < longest_in (call ∷ asked))
+lacks_more call asked log_room room lacks =
+    elim lacks as (λ _. (log_room < weight_in (call ∷ asked)) ⊎ (room < longest_in (call ∷ asked))) [
+      | inl heavy ↦ inl (omega (arith, heavy))
+      | inr long ↦ inr (omega (arith, long))
+    ]
+
 -- a call that was made and noted
-pub noting_made : (call : RecordedCall) (n new : Noting) (file now : List ℕ) → IsNoting n file
-    → FitsEntry call → IsWithin call file → new.history ≡ done call n.history → new.start ≡ n.start
-    → new.text ≡ n.text ++ spelled call → now ≡ changed call file → IsNoting new now
-noting_made call n new file now is fits within went start more does = record {
-  same_file = does ∙ ap (changed call) is.same_file ∙ ap file_of (sym went);
-  few = subst (λ (h : History). h.turn ≤ 2 ^ 64 - 1) (sym went) (omega (arith, is.few));
-  ended = subst (λ (h : History). EndedBy h.turn h.calls) (sym went) (
+is_made : (call : RecordedCall) (n : Noting) (file now : List ℕ) → IsNoting n file → FitsEntry call
+    → IsWithin call file → now ≡ changed call file → IsNoting (made call n) now
+is_made call n file now is fits within does = record {
+  same_file = does ∙ ap (changed call) is.same_file;
+  few = omega (arith, is.few);
+  ended = (
     omega (arith, is.few),
     EndedBy_later n.history.turn (done call n.history).turn n.history.calls (omega (arith, is.few)) is.ended,
   );
-  log = subst (λ text. IsLog new.start new.history text) (sym more)
-      (subst (λ (h : History). IsLog h new.history (n.text ++ spelled call)) (sym start)
-      (subst (λ (h : History). IsLog n.start h (n.text ++ spelled call)) (sym went)
-      (log_done call n.start n.history n.text is.few fits
-      (subst (IsWithin call) is.same_file within) is.log)));
+  log = log_done call n.start n.history n.text is.few fits (subst (IsWithin call) is.same_file within) is.log;
+  spelled = omega (arith, length-append n.text (spelled call), length_spelled call, is.spelled);
+  cause = λ more. lacks_more call n.asked n.log_room n.room (is.cause more);
 }
 
--- one that failed
-pub noting_refused : (n new : Noting) (file : List ℕ) → IsNoting n file → new.history ≡ undone n.history
-    → new.start ≡ n.start → new.text ≡ n.text → IsNoting new file
-noting_refused n new file is went start same = record {
-  same_file = is.same_file ∙ ap file_of (sym went);
-  few = subst (λ (h : History). h.turn ≤ 2 ^ 64 - 1) (sym went) (omega (arith, is.few));
-  ended = subst (λ (h : History). EndedBy h.turn h.calls) (sym went)
-      (EndedBy_later n.history.turn (undone n.history).turn n.history.calls (omega (arith, is.few)) is.ended);
-  log = subst (λ text. IsLog new.start new.history text) (sym same)
-      (subst (λ (h : History). IsLog h new.history n.text) (sym start)
-      (subst (λ (h : History). IsLog n.start h n.text) (sym went)
-      (log_undone n.start n.history n.text is.few is.log)));
+pub noting_made : (call : RecordedCall) (n new : Noting) (file now : List ℕ) → IsNoting n file
+    → FitsEntry call → IsWithin call file → new ≡ made call n → now ≡ changed call file → IsNoting new now
+noting_made call n new file now is fits within e does =
+    subst (λ (x : Noting). IsNoting x now) (sym e) (is_made call n file now is fits within does)
+
+-- one that was refused for want of room
+is_refused : (call : RecordedCall) (n : Noting) (file : List ℕ) → IsNoting n file
+    → (n.log_room < length n.text + weight_of call) ⊎ (n.room < length_by call)
+    → IsNoting (refused call n) file
+is_refused call n file is lacks = record {
+  same_file = is.same_file;
+  few = omega (arith, is.few);
+  ended = EndedBy_later n.history.turn (undone n.history).turn n.history.calls (omega (arith, is.few))
+      is.ended;
+  log = log_undone n.start n.history n.text is.few is.log;
+  spelled = omega (arith, is.spelled);
+  cause = λ _. elim lacks as (λ _. LacksSpace (refused call n)) [
+    | inl heavy ↦ inl (omega (arith, heavy, is.spelled))
+    | inr long ↦ inr (omega (arith, long))
+  ];
 }
+
+pub noting_refused : (call : RecordedCall) (n new : Noting) (file : List ℕ) → IsNoting n file
+    → new ≡ refused call n → (n.log_room < length n.text + weight_of call) ⊎ (n.room < length_by call)
+    → IsNoting new file
+noting_refused call n new file is e lacks =
+    subst (λ (x : Noting). IsNoting x file) (sym e) (is_refused call n file is lacks)

@@ -1,9 +1,9 @@
 -- What a stopped replay leaves is among the images of the disk whose calls are made.
-use Rattle.std.proofs.Common.{◌≡◌, ◌∙◌, ap, sym, subst, refl, arith, inl, inr, ℕ, List, [], ◌∷◌, ◌++◌}
+use Rattle.std.proofs.Common.{◌≡◌, ◌∙◌, ap, sym, subst, refl, inl, inr, ℕ, List, [], ◌∷◌, ◌++◌}
 use Rattle.std.specs.Prelude.{◌⊎◌, ◌≤◌, ◌<◌, ◌-◌, ◌^◌}
-use Rattle.disk_face.specs.Images.{Unsynced, IsImage}
+use Rattle.disk_face.specs.Images.{IsImage}
 use Rattle.disk_history.specs.Changes.{RecordedCall, Stamped, content_after, during, left_by, unsynced_after}
-use Rattle.disk_history.specs.Histories.{History, EndedBy, LeftBefore, LeftSince, MayLeave, file_of, unsynced_of}
+use Rattle.disk_history.specs.Histories.{History, EndedBy, LeftBefore, LeftSince, MayLeave, unsynced_of}
 use Rattle.disk_history.proofs.HistoryLaws.{before_turn, image_during}
 use Rattle.lent_disk.specs.Calls.{FitEntries, text_of}
 use Rattle.lent_disk.specs.Notings.{BeganFrom, IsLog, changes}

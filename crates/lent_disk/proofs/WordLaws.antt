@@ -1,10 +1,12 @@
 -- No two histories have one word.
-use Rattle.std.proofs.Common.{◌≡◌, ◌∙◌, ap, sym, refl, arith, subst, ℕ, List, [], ◌∷◌, ◌++◌, length, take, drop}
+use Rattle.std.proofs.Common.{◌≡◌, ◌∙◌, ap, sym, refl, arith, ℕ, List, [], ◌∷◌, ◌++◌, length, take, drop}
 use Rattle.std.specs.Prelude.{slice_index}
 use Rattle.std.proofs.Math.Seq.{drop-append_seam, take-append_seam}
 use Rattle.disk_history.specs.Changes.{RecordedCall, Stamped}
 use Rattle.disk_history.specs.Changes.RecordedCall.{Sized, Synced, Wrote}
 use Rattle.disk_history.specs.Histories.{History}
+use Rattle.lent_disk.specs.Disks.{word_in}
+use Rattle.lent_disk.specs.Notings.{Noting}
 use Rattle.lent_disk.specs.Words.{call_word, calls_word, word_of}
 
 at : (i : ℕ) {xs ys : List ℕ} → xs ≡ ys → slice_index xs i ≡ slice_index ys i
@@ -50,3 +52,11 @@ same_history g h e =
     same_parts : {a b : History} → a.base ≡ b.base → a.calls ≡ b.calls → a.turn ≡ b.turn → a.faults ≡ b.faults
         → a ≡ b
     same_parts b c t f i = record { base = b i; calls = c i; turn = t i; faults = f i }
+
+-- what stays over each call
+pub same_words : (a b : Noting) → word_in a ≡ word_in b
+    → (a.start ≡ b.start) × ((a.room ≡ b.room) × (a.log_room ≡ b.log_room))
+same_words a b e = (
+  same_history a.start b.start (ap (drop 2) e),
+  (ap (λ w. slice_index w 0) e, ap (λ w. slice_index w 1) e),
+)

@@ -1,16 +1,17 @@
 -- What contracts see of a file in memory whose calls are noted.
-use Rattle.std.specs.Prelude.{◌≡◌, ℕ, ◌-◌, ◌^◌, ◌≤◌, List, [], ◌∷◌, ◌++◌, map}
+use Rattle.std.specs.Prelude.{◌≡◌, ◌⊎◌, ℕ, ◌-◌, ◌^◌, ◌<◌, ◌≤◌, List, [], ◌∷◌, ◌++◌, length, map}
 use Rattle.disk_history.specs.Changes.{RecordedCall, Stamped}
-use Rattle.disk_history.specs.Changes.RecordedCall.{Wrote, Sized, Synced}
 use Rattle.disk_history.specs.Histories.{History, EndedBy, done, file_of, fresh, undone}
-use Rattle.lent_disk.specs.Calls.{AreWithin, FitEntries, spelled, text_of}
+use Rattle.lent_disk.specs.Calls.{AreWithin, FitEntries, longest_in, spelled, text_of, weight_in}
 
 -- The calls on the file since it was lent; the same at the moment when the log was emptied last; what the log
--- spells; and how many bytes the file and the log may have.
+-- spells; which changing calls were asked for since then, the newest first, made or refused; and how many
+-- bytes the file and the log may have.
 pub record Noting : Type 0 where
   pub history : History
   pub start : History
   pub text : List ℕ
+  pub asked : List RecordedCall
   pub room : ℕ
   pub log_room : ℕ
 
@@ -38,12 +39,20 @@ pub record IsLog (start history : History) (text : List ℕ) : Type 0 where
   pub later : start.turn ≤ history.turn
   pub since : BeganFrom start.turn calls
 
--- what holds of each: the file is what its history gives, and the log spells what it has had since the start
+-- There isn't room for what was asked for: the log may have fewer bytes than spell it, or the file fewer than
+-- a length that was to be set.
+abbrev pub LacksSpace : Noting → Type 0
+LacksSpace n = (n.log_room < weight_in n.asked) ⊎ (n.room < longest_in n.asked)
+
+-- What holds of each: the file is what its history gives, and the log spells what it has had since the start.
+-- Nothing is spelled that wasn't asked for, and a call failed since then only for want of room.
 pub record IsNoting (n : Noting) (file : List ℕ) : Type 0 where
   pub same_file : file ≡ content n
   pub few : n.history.turn ≤ 2 ^ 64 - 1
   pub ended : EndedBy n.history.turn n.history.calls
   pub log : IsLog n.start n.history n.text
+  pub spelled : length n.text ≤ weight_in n.asked
+  pub cause : n.start.faults < n.history.faults → LacksSpace n
 
 -- a file that is at rest on its device, before its first call
 abbrev pub lent : List ℕ → ℕ → ℕ → Noting
@@ -51,18 +60,23 @@ lent file room log_room = record {
   history = fresh file;
   start = fresh file;
   text = [];
+  asked = [];
   room = room;
   log_room = log_room;
 }
 
 -- after a call that was made and noted
 abbrev pub made : RecordedCall → Noting → Noting
-made call n = record n { history = done call n.history; text = n.text ++ spelled call }
+made call n = record n {
+  history = done call n.history;
+  text = n.text ++ spelled call;
+  asked = call ∷ n.asked;
+}
 
 -- after a changing call that didn't fit
-abbrev pub refused : Noting → Noting
-refused n = record n { history = undone n.history }
+abbrev pub refused : RecordedCall → Noting → Noting
+refused call n = record n { history = undone n.history; asked = call ∷ n.asked }
 
 -- once the calls of the log were made elsewhere, and it is empty again
 abbrev pub emptied : Noting → Noting
-emptied n = record n { start = n.history; text = [] }
+emptied n = record n { start = n.history; text = []; asked = [] }

@@ -3,26 +3,29 @@ ghost use Rattle.std.specs.Prelude.{◌≡◌, ◌⊎◌, ◌≤◌, ◌<◌, �
 ghost use Rattle.byte_ranges.specs.Ranges.{bytes_at, overwritten, resized};
 ghost use Rattle.disk_face.specs.{Counts.{HasCause}, Frames.{AfterLength, AfterRead, AfterSync, AfterWrite}, Moments.{Only}};
 ghost use Rattle.disk_history.specs.{Changes.RecordedCall.{Wrote, Sized, Synced}, Histories.{EndedBy, MayLeave}};
-ghost use Rattle.lent_disk.specs.{Calls.{entry_head}, Notings.{IsLog, content, emptied, lent, made, refused}};
+ghost use Rattle.lent_disk.specs.{Calls.{entry_head}, Notings.{IsLog, LacksSpace, content, emptied, lent, made, refused}};
 
 use crate::course::Course;
 use crate::log::Log;
 use crate::room::Room;
+use crate::trail::Trail;
 use disk_face::{Disk, DiskFault};
 use std::marker::Model;
 use std::snapshot::Snapshot;
 
 /// A file at the front of a room, and the calls on it, of which the log has those since it was emptied last.
+/// What was asked for since then, made or refused, clauses alone read.
 #[derive(Drop)]
 pub struct LentDisk {
     course: Course,
     start: Snapshot<Course>,
+    asked: Trail,
     room: Room,
     log: Log,
 }
 
 impl Model for LentDisk {
-    ghost use Rattle.lent_disk.specs.Notings.{Noting, IsNoting};
+    ghost use Rattle.lent_disk.specs.Notings.{Noting, IsNoting, changes};
 
     ghost Value = { Noting };
 
@@ -30,6 +33,7 @@ impl Model for LentDisk {
       history = d.course;
       start = d.start.value;
       text = d.log.text;
+      asked = changes d.asked.history.calls;
       room = d.room.most;
       log_room = d.log.most;
     } };
@@ -38,6 +42,7 @@ impl Model for LentDisk {
       history = d.course;
       start = d.start.value;
       text = d.log.text;
+      asked = changes d.asked.history.calls;
       room = d.room.most;
       log_room = d.log.most;
     }) d.room.file };
@@ -54,6 +59,7 @@ impl LentDisk {
         LentDisk {
             start: Snapshot::of(&course),
             course,
+            asked: Trail::new(),
             room,
             log,
         }
@@ -64,13 +70,16 @@ impl LentDisk {
         ensures { self.new ≡ emptied self.old }
     {
         self.start = Snapshot::of(&self.course);
+        self.asked = Trail::new();
         self.log.clear();
     }
 
-    /// What is known of each of them: the log spells the calls since it was emptied last.
+    /// What is known of each of them: the log spells the calls since it was emptied last, and one of those
+    /// that were asked for failed only for want of room.
     pub fn is_noted(&self)
         ensures log { IsLog self.now.start self.now.history self.now.text }
         ensures ended { EndedBy self.now.history.turn self.now.history.calls }
+        ensures cause { self.now.start.faults < self.now.history.faults → LacksSpace self.now }
     {
         let _ = self.log.text();
     }
@@ -140,11 +149,12 @@ impl Disk for LentDisk {
         ensures fails { IsErr result
             ↔ (self.old.log_room < length self.old.text + entry_head + length bytes.now) }
         ensures ok { OnOk result (self.new ≡ made (Wrote pos bytes.now) self.old) }
-        ensures err { OnErr result (self.new ≡ refused self.old) }
+        ensures err { OnErr result (self.new ≡ refused (Wrote pos bytes.now) self.old) }
         ensures written { OnOk result (content self.new ≡ overwritten (content self.old) pos bytes.now) }
         ensures frame { AfterWrite pos (length bytes.now) (lent_state self.old) (lent_state self.new) }
         ensures cause { HasCause self.old.history.faults self.new.history.faults result }
     {
+        self.asked.write(pos, bytes);
         if !self.log.fits(bytes.len()) {
             self.course.fail();
             return Err(DiskFault);
@@ -159,13 +169,14 @@ impl Disk for LentDisk {
         ensures fails { IsErr result ↔ ((self.old.room < n)
             ⊎ (self.old.log_room < length self.old.text + entry_head)) }
         ensures ok { OnOk result (self.new ≡ made (Sized n) self.old) }
-        ensures err { OnErr result (self.new ≡ refused self.old) }
+        ensures err { OnErr result (self.new ≡ refused (Sized n) self.old) }
         ensures resized { OnOk result (content self.new ≡ resized (content self.old) n) }
         ensures either { OnErr result ((content self.new ≡ content self.old)
             ⊎ (content self.new ≡ resized (content self.old) n)) }
         ensures frame { AfterLength n (lent_state self.old) (lent_state self.new) }
         ensures cause { HasCause self.old.history.faults self.new.history.faults result }
     {
+        self.asked.set_len(n);
         if n > self.room.most() as u64 || !self.log.fits(0) {
             self.course.fail();
             return Err(DiskFault);
@@ -179,11 +190,12 @@ impl Disk for LentDisk {
     fn sync(&mut self) -> Result<(), DiskFault>
         ensures fails { IsErr result ↔ (self.old.log_room < length self.old.text + entry_head) }
         ensures ok { OnOk result (self.new ≡ made Synced self.old) }
-        ensures err { OnErr result (self.new ≡ refused self.old) }
+        ensures err { OnErr result (self.new ≡ refused Synced self.old) }
         ensures rests { OnOk result (Only (content self.old) (MayLeave self.new.history)) }
         ensures frame { AfterSync (lent_state self.old) (lent_state self.new) }
         ensures cause { HasCause self.old.history.faults self.new.history.faults result }
     {
+        self.asked.sync();
         if !self.log.fits(0) {
             self.course.fail();
             return Err(DiskFault);

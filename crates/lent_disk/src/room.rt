@@ -48,9 +48,10 @@ impl Room {
         }
     }
 
-    /// How many bytes the file has.
+    /// How many bytes the file has, no more than it may have.
     pub fn end(&self) -> usize
-        ensures { result ≡ length self.now.file }
+        ensures length { result ≡ length self.now.file }
+        ensures fits { length self.now.file ≤ self.now.most }
     {
         self.end
     }

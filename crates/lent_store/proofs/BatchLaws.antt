@@ -1,6 +1,6 @@
 -- What a batch leaves of a file whose calls it has noted.
 use Rattle.std.proofs.Common.{◌≡◌, ◌∙◌, refl, subst, sym, inl, inr, Bool, true, false, ℕ, List}
-use Rattle.std.specs.Prelude.{◌||◌, ◌<◌, ◌-◌, ◌^◌, Result, Ok, Err}
+use Rattle.std.specs.Prelude.{◌<◌, ◌-◌, ◌^◌, Result, Ok, Err}
 use Rattle.std.proofs.lemmas.Bool.{false≢true}
 use Rattle.disk_face.specs.Frames.{Unchanged}
 use Rattle.disk_history.specs.Histories.{MayLeave}

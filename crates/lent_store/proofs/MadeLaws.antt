@@ -1,6 +1,6 @@
 -- What is noted of an opening, and the store that a file is which was formatted.
 use Rattle.std.proofs.Common.{◌≡◌, ◌∙◌, ap, arith, inl, inr, refl, subst, sym, ℕ, List, []}
-use Rattle.std.specs.Prelude.{IsErr, IsTrue, OnOk, Ok, Err, Result, length}
+use Rattle.std.specs.Prelude.{true, false, IsErr, IsTrue, OnErr, OnOk, Ok, Err, Result, length}
 use Rattle.std.specs.FinMap as fin
 use Rattle.disk_face.specs.declared.DiskFault.{DiskFault}
 use Rattle.disk_face.specs.Frames.{Unchanged}
@@ -10,6 +10,7 @@ use Rattle.disk_face.proofs.MomentLaws.{Leaves-trans, Leaves-weaken}
 use Rattle.disk_history.specs.Histories.{EndedBy}
 use Rattle.lent_disk.specs.Disks.{lent_state}
 use Rattle.lent_disk.specs.Notings.{IsLog, Noting, lent}
+use Rattle.lent_disk.specs.Rooms.{Filing, Logging}
 use Rattle.slot_codec.specs.Choice as choice
 use Rattle.slot_codec.specs.Spelling.{head_len}
 use Rattle.slot_codec.specs.declared.codec.Kind.TheVariants.{Settled}
@@ -28,8 +29,7 @@ use Rattle.reopen.specs.declared.fault.OpenFault.{OpenFault}
 use Rattle.reopen.specs.declared.fault.OpenFault.TheVariants as fault
 use Rattle.store_model.specs.Connection.{StoreValue}
 use Rattle.store_model.specs.Opened.{IsOpening, SameOnFound, state_at}
-use Rattle.load_stream.specs.Saved.{OpensEmpty}
-use Rattle.lent_store.specs.Made.{IsFormatImage, IsMade, NotMade}
+use Rattle.lent_store.specs.Made.{IsFormatImage, IsMade, LacksToFormat, NotMade}
 use Rattle.lent_store.specs.Noted.{IsNotedOf, StopsFrom}
 use Rattle.dump_stream.proofs.FirstLaws.{first_opens}
 use Rattle.lent_store.proofs.NotedLaws.{noted_since}
@@ -58,15 +58,20 @@ module _ (k names : ℕ) (file : List ℕ) (first : HasFirstTable k names file) 
   one_table t is = let e : Ok t ≡ Ok (first_table k names) = sym is ∙ first.table in cc
 
   -- it isn't refused for what it has
-  pub not_made : (why : OpenFault) → RefusesToOpen CLASSES file why → NotMade why
-  not_made fault.NoMemory is = inl refl
-  not_made (fault.Slot slot.Disk) is = inr refl
-  not_made (fault.Slot slot.Short) is = unrefused k names file choice.too_short first is
-  not_made (fault.Slot slot.Unformatted) is = unrefused k names file choice.unformatted first is
-  not_made (fault.Slot slot.NoGate) is = unrefused k names file choice.no_gate first is
-  not_made (fault.Slot slot.SameSequence) is = unrefused k names file choice.same_sequence first is
-  not_made (fault.Slot (slot.Codec f at)) is = unrefused k names file (choice.codec f at) first is
-  not_made (fault.Table broken) is = absurd (valid_breaks_none (placed_table CLASSES SIZE_MAX file
+  pub not_made : (room : Filing) (log : Logging) (why : OpenFault) → RefusesToOpen CLASSES file why
+      → (why ≡ fault.Slot slot.Disk → LacksToFormat names room log) → NotMade names room log why
+  not_made room log fault.NoMemory is lacks = inl refl
+  not_made room log (fault.Slot slot.Disk) is lacks = inr (refl, lacks refl)
+  not_made room log (fault.Slot slot.Short) is lacks = unrefused k names file choice.too_short first is
+  not_made room log (fault.Slot slot.Unformatted) is lacks =
+      unrefused k names file choice.unformatted first is
+  not_made room log (fault.Slot slot.NoGate) is lacks = unrefused k names file choice.no_gate first is
+  not_made room log (fault.Slot slot.SameSequence) is lacks =
+      unrefused k names file choice.same_sequence first is
+  not_made room log (fault.Slot (slot.Codec f at)) is lacks =
+      unrefused k names file (choice.codec f at) first is
+  not_made room log (fault.Table broken) is lacks =
+      absurd (valid_breaks_none (placed_table CLASSES SIZE_MAX file
       (first_table k names)) broken.rule broken.at opens.valid
       (subst (λ (t : choice.SlotTable). FirstBroken (placed_table CLASSES SIZE_MAX file t) broken.rule
       broken.at) (one_table is.table is.read) is.first))
@@ -87,15 +92,18 @@ settled : (k names : ℕ) → (first_table k names).chosen.header.kind ≡ Settl
 unfolding first_header
 settled k names = refl
 
--- an opening of such a file leaves it alone, and what a crash leaves of both is no store, or an empty one
+-- an opening of such a file leaves it alone
+pub left_alone : (k names : ℕ) (before now : disk.State) (result : Result StoreValue OpenFault)
+    → before.file ≡ formatted_file k names → HasFirstTable k names before.file → IsTrue before.tells
+    → IsOpening CLASSES before now result → Unchanged before now
+left_alone k names before now result is first told opening =
+    (opening.found told (first_table k names) fin.empty empty_book (opens k names before.file first)).alone
+    (settled k names) (omega (arith, length-formatted k names, ap length is))
+
+-- and what a crash leaves of both is no store, or an empty one
 module _ (k names : ℕ) (before : disk.State) (s : StoreValue) (n : Noting)
     (is : before.file ≡ formatted_file k names) (first : HasFirstTable k names before.file)
     (told : IsTrue before.tells) (opening : IsOpening CLASSES before (lent_state n) (Ok s)) where
-  left_alone : Unchanged before (lent_state n)
-  left_alone = (opening.found told (first_table k names) fin.empty empty_book
-      (opens k names before.file first)).alone (settled k names)
-      (omega (arith, length-formatted k names, ap length is))
-
   pub made_left : (start : disk.State) → Rests before
       → Leaves start before (IsNoStoreOrEmpty k names) → Leaves start (lent_state n) (IsFormatImage k names)
   made_left start rests left = Leaves-trans
@@ -103,7 +111,7 @@ module _ (k names : ℕ) (before : disk.State) (s : StoreValue) (n : Noting)
       (Leaves-weaken (IsFormatImage k names)
       (λ image may. inr (empty_for k names image (subst (HasFirstTable k names) (sym (rests image may))
       first)))
-      left_alone.since)
+      (left_alone k names before (lent_state n) (Ok s) is first told opening).since)
     where
       format_image : (image : List ℕ) → IsNoStoreOrEmpty k names image → IsFormatImage k names image
       format_image image (inl none) = inl none
@@ -120,7 +128,7 @@ made k names before s n is first rests told opening noted stops =
     let t = first_table k names in
     let file = before.file in
     let found = opening.found told t fin.empty empty_book (opens k names file first) in
-    let same = (left_alone k names before s n is first told opening).same_file told in
+    let same = (left_alone k names before (lent_state n) (Ok s) is first told opening).same_file told in
     let o = opening.opened told in
     let over = opening.over told in
     let slot : choice.slot_in_use (lent_state n).file ≡ Ok (first_in_use k names) =
@@ -144,12 +152,17 @@ made k names before s n is first rests told opening noted stops =
     }
 
 -- what is answered where the file was formatted first
-pub format_refused : {before now : disk.State} (k names : ℕ) (why : OpenFault) → IsTrue before.tells
-    → HasFirstTable k names before.file → IsOpening CLASSES before now (Err why) → NotMade why
-format_refused {before} k names why told first opening = not_made k names before.file first why
-    (opening.refused told)
+pub format_refused : {before now : disk.State} (k names : ℕ) (room : Filing) (log : Logging) (why : OpenFault)
+    → IsTrue before.tells → HasFirstTable k names before.file → IsOpening CLASSES before now (Err why)
+    → (why ≡ fault.Slot slot.Disk → LacksToFormat names room log) → NotMade names room log why
+format_refused {before} k names room log why told first opening lacks =
+    not_made k names before.file first room log why (opening.refused told) lacks
 
 -- and what a call has done that answered
 pub done_ok : {P : Type 0} (result : Result (Unit {0}) DiskFault) → (IsErr result → ⊥) → OnOk result P → P
 done_ok (Ok u) calm p = p
 done_ok (Err f) calm p = absurd (calm refl)
+
+pub failed_err : {P : Type 0} (result : Result (Unit {0}) DiskFault) → IsErr result → OnErr result P → P
+failed_err (Ok u) bad p = absurd (let e : false ≡ true = bad in cc)
+failed_err (Err f) bad p = p

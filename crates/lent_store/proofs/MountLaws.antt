@@ -1,6 +1,6 @@
 -- The last mount of a disk stays over each call of a store.
-use Rattle.std.proofs.Common.{rules, ◌≡◌, refl, Bool, true, false, ℕ}
-use Rattle.std.specs.Prelude.{Option, Some, None, IsSome, IsNone, Result}
+use Rattle.std.proofs.Common.{◌≡◌, ℕ}
+use Rattle.std.specs.Prelude.{None, IsSome, IsNone, Result}
 use Rattle.disk_face.specs.States as disk
 use Rattle.map_model.specs.Requests as ask
 use Rattle.map_model.specs.Requests.{Change}

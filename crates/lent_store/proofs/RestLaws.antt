@@ -1,10 +1,9 @@
 -- A store over a file in memory rests on its last checkpoint.
 use Rattle.std.proofs.Common.{ap, rules, ◌≡◌, ◌∙◌, refl, subst, sym, inl, inr, Bool, true, false, ℕ, List}
-use Rattle.std.specs.Prelude.{◌||◌, Option, Some, None, IsSome, IsNone, IsTrue, Ok, Err, OnOk, Result}
+use Rattle.std.specs.Prelude.{Option, Some, None, IsSome, IsNone, IsTrue, Ok, Err, OnOk, Result}
 use Rattle.std.proofs.lemmas.Bool.{false≢true}
 use Rattle.disk_face.specs.States as disk
 use Rattle.disk_face.proofs.ImageLaws.{image_synced}
-use Rattle.slot_codec.specs.Choice as choice
 use Rattle.size_class.specs.declared.TheConstants.{CLASSES}
 use Rattle.lent_disk.specs.Disks.{lent_state}
 use Rattle.lent_disk.specs.Notings.{lent}

@@ -88,6 +88,7 @@ module _ (s t : StoreValue) (a b : Noting) where
     in_hand = x.in_hand;
     fewer = x.fewer;
     some = x.some;
+    bytes = x.bytes;
     rest = x.rest;
   }
   makes h (Ok progress.Settled) x = record { turns = x.turns; rest = x.rest }
@@ -160,6 +161,10 @@ module _ (s t : StoreValue) (a b : Noting) where
         told = x.same_disk.stays.told;
         images_told = x.same_disk.stays.images_told;
         same_mount = refl;
+      };
+      asks = record {
+        weight = omega (arith, x.same_disk.asks.weight);
+        longest = omega (arith, x.same_disk.asks.longest);
       };
     };
     same_faults = x.same_faults;

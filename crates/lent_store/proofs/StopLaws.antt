@@ -1,6 +1,6 @@
 -- What a stopped replay leaves of a file whose calls a store has noted.
-use Rattle.std.proofs.Common.{arith, rules, ◌≡◌, ◌∙◌, refl, subst, sym, inl, inr, Bool, true, false, ℕ, List, []}
-use Rattle.std.specs.Prelude.{◌⊎◌, ◌<◌, ◌-◌, ◌^◌, Option, Some, None, IsSome, IsNone, IsTrue, Ok, Result, length}
+use Rattle.std.proofs.Common.{arith, ◌≡◌, ◌∙◌, refl, subst, sym, inl, inr, ℕ, List, []}
+use Rattle.std.specs.Prelude.{◌⊎◌, ◌<◌, ◌-◌, ◌^◌, Some, IsSome, IsNone, IsTrue, Ok, Result, length}
 use Rattle.disk_face.specs.Moments.{Leaves, Only}
 use Rattle.disk_face.specs.States as disk
 use Rattle.disk_face.proofs.ImageLaws.{image_synced}

@@ -1,5 +1,5 @@
 -- What is read of a file that a store is over, and of one that was loaded.
-use Rattle.std.proofs.Common.{arith, ap, ◌≡◌, ◌∙◌, refl, subst, sym, true, false, ℕ, List, [], append-nil, inl, inr}
+use Rattle.std.proofs.Common.{arith, ap, ◌≡◌, ◌∙◌, refl, subst, sym, true, false, ℕ, List, [], inl, inr}
 use Rattle.std.specs.Prelude.{length, ◌+◌, ◌<◌, Option, Some, None, Result, Ok, Err, IfOk}
 use Rattle.std.specs.FinMap as fin
 use Rattle.disk_face.specs.Frames.{Unchanged}
@@ -9,7 +9,7 @@ use Rattle.disk_face.proofs.MomentLaws.{Leaves-trans, Leaves-weaken}
 use Rattle.disk_history.specs.Histories.{EndedBy, History, fresh}
 use Rattle.lent_disk.specs.Disks.{lent_state}
 use Rattle.lent_disk.specs.Notings.{IsLog, Noting, content, lent}
-use Rattle.lent_disk.proofs.WordLaws.{same_history}
+use Rattle.lent_disk.proofs.WordLaws.{same_words}
 use Rattle.size_class.specs.declared.TheConstants.{CLASSES, SIZE_MAX}
 use Rattle.slot_codec.specs.Choice as choice
 use Rattle.slot_codec.specs.Spelling.{head_len}
@@ -33,7 +33,7 @@ use Rattle.store_model.specs.States as store
 use Rattle.dump_stream.specs.Dumping.{AreSound}
 use Rattle.dump_stream.specs.Dumps.{IsDumpOf, dump_text}
 use Rattle.dump_stream.specs.Placing.{laid_book}
-use Rattle.dump_stream.proofs.TextLaws.{dump_one, one_map}
+use Rattle.dump_stream.proofs.TextLaws.{one_map}
 use Rattle.load_stream.specs.Loaded.{IsLoadImage, LoadsWhole, OpensDump}
 use Rattle.load_stream.specs.Steps.{passed}
 use Rattle.load_stream.specs.declared.fault.LoadFault.{LoadFault}
@@ -216,7 +216,7 @@ fresh_by n (Err why) is = tt
 -- where the start of a log stays over a call
 pub start_stays : (before new : Noting) → (lent_state new).last_mount ≡ (lent_state before).last_mount
     → new.start ≡ before.start
-start_stays before new same = same_history new.start before.start (ap name_in same)
+start_stays before new same = (same_words new before (ap name_in same)).0
 
 -- the log of what began on an empty file
 pub noted_by : (first n : Noting) (result : Result Embedded LoadFault)

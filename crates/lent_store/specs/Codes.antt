@@ -40,15 +40,17 @@ history_code = code_by (List ℕ × (List Stamped × (ℕ × ℕ)))
     (λ p. record { base = p.0; calls = p.1.0; turn = p.1.1.0; faults = p.1.1.1 }) (λ _. refl)
 
 abbrev pub noting_code : Coded Noting
-noting_code = code_by (History × (History × (List ℕ × (ℕ × ℕ))))
-    (coded× history_code (coded× history_code (coded× (coded_list coded_ℕ) (coded× coded_ℕ coded_ℕ))))
-    (λ n. (n.history, (n.start, (n.text, (n.room, n.log_room)))))
+noting_code = code_by (History × (History × (List ℕ × (List RecordedCall × (ℕ × ℕ)))))
+    (coded× history_code (coded× history_code (coded× (coded_list coded_ℕ)
+    (coded× (coded_list call_code) (coded× coded_ℕ coded_ℕ)))))
+    (λ n. (n.history, (n.start, (n.text, (n.asked, (n.room, n.log_room))))))
     (λ p. record {
       history = p.0;
       start = p.1.0;
       text = p.1.1.0;
-      room = p.1.1.1.0;
-      log_room = p.1.1.1.1;
+      asked = p.1.1.1.0;
+      room = p.1.1.1.1.0;
+      log_room = p.1.1.1.1.1;
     }) (λ _. refl)
 
 abbrev pub embedded_code : Coded Embedded

@@ -1,7 +1,10 @@
 -- A store that was made of a file without bytes.
-use Rattle.std.specs.Prelude.{◌≡◌, ◌⊎◌, ℕ, List, []}
+use Rattle.std.specs.Prelude.{◌≡◌, ◌⊎◌, ◌+◌, ◌*◌, ◌<◌, ℕ, List, []}
 use Rattle.std.specs.FinMap as fin
+use Rattle.disk_face.specs.Frames.{call_weight}
+use Rattle.lent_disk.specs.Rooms.{Filing, Logging}
 use Rattle.size_class.specs.declared.TheConstants.{CLASSES}
+use Rattle.slot_codec.specs.Spelling.{head_len}
 use Rattle.segment_layout.specs.Books.{empty_book}
 use Rattle.slot_pair.specs.Formats.{IsNoStore, first_in_use, formatted_file}
 use Rattle.slot_pair.specs.declared.find.SlotFault.TheVariants as slot
@@ -30,6 +33,15 @@ pub record IsMade (k names : ℕ) (s : Embedded) : Type 0 where
   pub noted : IsNotedOf [] s
   pub stops : StopsFrom [] (IsFormatImage k names) s
 
--- there was no memory, or the room or the log was too small
-abbrev pub NotMade : OpenFault → Type 0
-NotMade why = (why ≡ fault.NoMemory) ⊎ (why ≡ fault.Slot slot.Disk)
+-- how many bytes spell the calls of a format: ten, which write 90 bytes
+abbrev pub format_weight : ℕ
+format_weight = 10 * call_weight + 90
+
+-- the room is smaller than the head, or the log than what spells a format
+abbrev pub LacksToFormat : ℕ → Filing → Logging → Type 0
+LacksToFormat names room log = (room.most < head_len names) ⊎ (log.most < format_weight)
+
+-- there was no memory, or the disk failed for want of room
+abbrev pub NotMade : ℕ → Filing → Logging → OpenFault → Type 0
+NotMade names room log why = (why ≡ fault.NoMemory)
+    ⊎ ((why ≡ fault.Slot slot.Disk) × LacksToFormat names room log)

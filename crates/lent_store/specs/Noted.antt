@@ -1,21 +1,23 @@
 -- What a call notes, and what a crash leaves where the calls that it noted are made on the file and that
 -- stops.
-use Rattle.std.specs.Prelude.{◌⊎◌, ◌≡◌, ℕ, List}
+use Rattle.std.specs.Prelude.{◌⊎◌, ◌≡◌, ◌<◌, ℕ, List}
 use Rattle.size_class.specs.declared.TheConstants.{CLASSES}
 use Rattle.disk_history.specs.Changes.{RecordedCall}
 use Rattle.disk_history.specs.Histories.{EndedBy, MayLeave, fresh}
 use Rattle.lent_disk.specs.Calls.{FitEntries, text_of}
-use Rattle.lent_disk.specs.Notings.{IsLog}
+use Rattle.lent_disk.specs.Notings.{IsLog, LacksSpace}
 use Rattle.lent_disk.specs.Stops.{IsStopped}
 use Rattle.map_model.specs.Requests.{Change}
 use Rattle.store_answers.specs.Flushes.{IsFlushImage}
 use Rattle.store_model.specs.Connection.{IsKeptImage, RestsOnTable, base_of}
 use Rattle.lent_store.specs.Embedded.{Embedded, disk_of, file_in}
 
--- the log of a call spells the calls that made its file of the one before
+-- The log of a call spells the calls that made its file of the one before. Where one failed there wasn't room
+-- for those that it asked for.
 pub record IsNoted (old new : Embedded) : Type 0 where
   pub log : IsLog old.noting.history new.noting.history new.noting.text
   pub ended : EndedBy new.noting.history.turn new.noting.history.calls
+  pub cause : old.noting.history.faults < new.noting.history.faults → LacksSpace new.noting
 
 -- the log of a store that was opened or made spells the calls that made its file of one that was at rest
 pub record IsNotedOf (file : List ℕ) (s : Embedded) : Type 0 where

@@ -1,5 +1,5 @@
 -- How many bytes a file needs room for.
-use Rattle.std.specs.Prelude.{◌≡◌, ℕ, ◌+◌, ◌-◌, ◌*◌, ◌/◌, ◌^◌, ◌==◌, ◌&&◌, Bool, if◌then◌else◌, nat_lt, max, List, is_none}
+use Rattle.std.specs.Prelude.{ℕ, ◌+◌, ◌-◌, ◌*◌, ◌/◌, ◌^◌, ◌==◌, ◌&&◌, Bool, if◌then◌else◌, nat_lt, max, List, is_none}
 use Rattle.std.specs.FinMap as fin
 use Rattle.size_class.specs.Classes.{class_of}
 use Rattle.map_model.specs.Requests as ask

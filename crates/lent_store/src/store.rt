@@ -3,11 +3,10 @@ ghost use Rattle.std.specs.Prelude.{◌≡◌, ◌↔◌, ◌≤◌, ◌+◌, []
 ghost use Rattle.byte_ranges.specs.Ranges.{bytes_at};
 ghost use Rattle.size_class.specs.declared.TheConstants.{CLASSES};
 ghost use Rattle.lent_disk.specs.{Disks.{lent_state}, Notings.{lent}};
-ghost use Rattle.reopen.specs.Refusals.{RefusesToOpen};
 ghost use Rattle.slot_codec.specs.Readable.{IsSuperBlock};
 ghost use Rattle.slot_pair.specs.Formats.{block_for};
 ghost use Rattle.store_model.specs.Opened.{IsOpening};
-ghost use Rattle.lent_store.specs.{Made.{IsMade, NotMade}, Noted.{IsNotedOf}};
+ghost use Rattle.lent_store.specs.{Made.{IsMade, NotMade}, Noted.{IsNotedOf}, Opening.{RefusesLent}};
 
 use lent_disk::{LentDisk, Log, Room};
 use reopen::OpenFault;
@@ -45,9 +44,11 @@ impl LentStore {
         ensures opened { IfOk result (λ s. IsOpening CLASSES
             (lent_state (lent room.entry.file room.entry.most log.entry.most)) (disk_of s)
             (Ok s.store)) }
-        ensures refused { IfErr result (RefusesToOpen CLASSES room.entry.file) }
+        ensures refused { IfErr result (RefusesLent room.entry log.entry) }
         ensures noted { IfOk result (IsNotedOf room.entry.file) }
     {
+        // For the prover: the file fits its room.
+        let _ = room.end();
         let mut disk = LentDisk::new(room, log);
         let opened: Result<Store<CLASSES>, OpenFault> = Store::open(alloc, &mut disk);
         disk.is_noted();
@@ -59,7 +60,7 @@ impl LentStore {
 
     /// Makes a store with no names of a file of length 0, and opens it: room for `names` names, 16 to 65,536,
     /// and buffers that are a k-th of their payload segments, `k` from 2 to 64. The log has the calls of
-    /// both. The disk fails where the room or the log is too small.
+    /// both. The disk fails only where the room is smaller than the head or the log than 260 bytes.
     pub fn format(
         alloc: Global,
         room: Room,
@@ -70,10 +71,12 @@ impl LentStore {
         requires ranges { IsSuperBlock (block_for k names) }
         requires empty { room.file ≡ [] }
         ensures made { IfOk result (IsMade k names) }
-        ensures refused { IfErr result NotMade }
+        ensures refused { IfErr result (NotMade names room.entry log.entry) }
     {
         let mut disk = LentDisk::new(room, log);
         if SlotPair::format(&mut disk, k, names).is_err() {
+            // For the prover: a call failed for want of room alone.
+            disk.is_noted();
             return Err(OpenFault::Slot(SlotFault::Disk));
         }
         let opened: Result<Store<CLASSES>, OpenFault> = Store::open(alloc, &mut disk);

@@ -6,7 +6,7 @@ use Rattle.byte_ranges.specs.Ranges.{bytes_at}
 use Rattle.byte_ranges.proofs.RangeLaws.{bytes_at-append}
 use Rattle.disk_face.specs.Frames.{Unchanged}
 use Rattle.disk_face.specs.States.{State}
-use Rattle.disk_face.proofs.FrameLaws.{Unchanged-trans}
+use Rattle.disk_face.proofs.FrameLaws.{Unchanged-trans, asks_nothing}
 use Rattle.disk_face.proofs.MomentLaws.{Leaves-none}
 use Rattle.slot_codec.specs.Choice.{read_records}
 use Rattle.slot_codec.specs.declared.codec.Record.{Record}
@@ -26,6 +26,7 @@ Unchanged-refl d ready = record {
   same_turn = refl;
   later = omega arith;
   stays = record { ready = ready; told = refl; images_told = refl; same_mount = refl };
+  asks = asks_nothing d;
 }
 
 -- no record is set in an empty map

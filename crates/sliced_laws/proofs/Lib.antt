@@ -1,3 +1,4 @@
 pub mod GoingLaws
 pub mod EndedLaws
 pub mod SlicedLaws
+pub mod BytesLaws

@@ -43,6 +43,7 @@ use Rattle.store_model.specs.Halves.{HalfAgrees, Origin, frame_at}
 use Rattle.store_model.proofs.DigestLaws.{next_digests}
 use Rattle.store_model.proofs.GoingOnLaws.{goes_with, room_for_all}
 use Rattle.store_model.proofs.MakeFlushLaws.{can_run}
+use Rattle.store_answers.proofs.BytesLeftLaws.{risen_none}
 use Rattle.store_answers.proofs.FlushLaws.{can_fly, flush_content, flush_left, loose_at, setting, some_flight}
 use Rattle.store_answers.proofs.MadeFlushLaws.{len_after, same_charges, sizes_after}
 
@@ -174,6 +175,10 @@ module _ {C : ℕ} (s : Inside C) (whole : IsWhole s) (unbroken : s.broken ≡ f
       many,
       ap (λ (m : Spots). fin.len m) begun.now,
       len_after ks c place,
+    );
+    bytes = omega (
+      arith,
+      risen_none (cells_of began.moved) x1.moved (ap (λ (y : HandsValue). y.moved) begun.rest ∙ sym row),
     );
     began = at;
     moved_then = row;

@@ -33,3 +33,4 @@ pub mod StepExitLaws
 pub mod AboveLaws
 pub mod FactsLaws
 pub mod WidestLaws
+pub mod BytesLeftLaws

@@ -42,7 +42,7 @@ use Rattle.reopen.specs.declared.state.Loaded.{Loaded}
 use Rattle.reopen.specs.Loads.{IsLoadedFrom, KeepsLoaded, table_loaded}
 use Rattle.store_model.specs.Connection.{StoreValue, opened_store}
 use Rattle.store_model.specs.Flushed.{IsFlushed}
-use Rattle.store_model.specs.Opened.{ContinuesFrom, IsFresh, IsOpened, IsOpening, LeavesAlone, MostCallsOf, MovesOn, OpenCallsOf, OpensFound}
+use Rattle.store_model.specs.Opened.{ContinuesFrom, IsFresh, IsOpened, IsOpening, AsksToCut, LeavesAlone, MostCallsOf, MovesOn, OpenCallsOf, OpensFound}
 use Rattle.store_model.specs.Resuming.{MakesStore, PacksAgain, StartsAgain}
 use Rattle.change_charges.proofs.EndLaws.{names_differ_all, records_lie}
 use Rattle.store_answers.proofs.FlushedLaws.{ended_over, ended_rests, ended_state, ended_store}
@@ -164,6 +164,9 @@ module _ {C : ℕ} (x : Loaded C) (loads : KeepsLoaded x) (moving : x.header.kin
       again_alone : LeavesAlone (table_loaded x) f.new_book first last
       again_alone settled low = absurd (let e : kind.Moving ≡ kind.Settled = sym moving ∙ settled in cc)
 
+      again_asks : AsksToCut (table_loaded x) first last
+      again_asks settled = absurd (let e : kind.Moving ≡ kind.Settled = sym moving ∙ settled in cc)
+
     -- the disk failed
     pub again_failed : {T E : Type 0} (fault : E) → HasCause {T = T} first.faults last.faults (Err fault)
         → IsOpening C first last (Err (fault_of.Slot slot.Disk))
@@ -185,6 +188,7 @@ module _ {C : ℕ} (x : Loaded C) (loads : KeepsLoaded x) (moving : x.header.kin
             calls = tt;
             most = again_most told;
             alone = again_alone told;
+            asks = again_asks told;
           });
       unchanged = tt;
       closed = λ told none. absurd (none _ _ (record { table = table_loaded x; opens = (from told).opens }));
@@ -350,6 +354,7 @@ module _ {C : ℕ} (x : Loaded C) (loads : KeepsLoaded x) (moving : x.header.kin
                 (sym moving) moves_on;
             most = again_most told;
             alone = again_alone told;
+            asks = again_asks told;
           }
 
       pub again_done : {T E : Type 0} (z : T) →

@@ -5,8 +5,10 @@ use Rattle.std.proofs.lemmas.Bool.{cases_Bool, cases_lt}
 use Rattle.std.specs.FinMap as fin
 use Rattle.disk_face.specs.States as disk
 use Rattle.data_area.specs.Pieces.{pieces}
+use Rattle.size_class.specs.Classes.{class_of}
 use Rattle.size_class.specs.Rows.{cells_of}
 use Rattle.size_class.specs.declared.TheConstants.{SIZE_MAX}
+use Rattle.size_class.proofs.ClassLaws.{class_below}
 use Rattle.slot_codec.specs.Reading.{is_version}
 use Rattle.slot_codec.specs.Spelling.{cap, head_len}
 use Rattle.slot_codec.specs.declared.codec.SuperBlock.{SuperBlock}
@@ -24,7 +26,7 @@ use Rattle.flush_plan.specs.Shelves.{PlanFrame}
 use Rattle.flush_run.specs.declared.hands.Hands.{Hands}
 use Rattle.flush_run.specs.declared.phase.Phase.{Phase}
 use Rattle.flush_run.specs.declared.phase.Phase.TheVariants as phases
-use Rattle.flush_run.specs.Calls.{CallsSoFar}
+use Rattle.flush_run.specs.Calls.{CallsSoFar, IsOpenRow}
 use Rattle.flush_run.specs.FlushFrames.{FlushFrame, LeavesOldOrNew, MidFlush}
 use Rattle.flush_run.specs.MadeMoves.{calls_of_save}
 use Rattle.flush_run.specs.Loops.{phase_header}
@@ -41,12 +43,14 @@ use Rattle.change_charges.specs.Sized.{IsSizedBy}
 use Rattle.change_charges.proofs.SizedLaws.{sized_volumes}
 use Rattle.store_answers.specs.declared.answers.Progress.TheVariants as progress
 use Rattle.store_answers.specs.declared.hand.Began.{Began}
+use Rattle.store_answers.specs.Facts.{bytes_left_of}
 use Rattle.store_answers.specs.Steps.{MovesOne, StepsHalf, SumsOfStep}
 use Rattle.store_answers.specs.Inside.{HoldsAt, Inside, IsGoing, IsWhole, hand_of, kept_of, seen, still_frame, untold}
 use Rattle.store_model.specs.Connection.{FlushInHand, StoreValue}
 use Rattle.store_model.specs.Halves.{HalfAgrees, IsHalfway, Origin, frame_at}
 use Rattle.store_model.specs.Quiet.{added}
 use Rattle.store_model.proofs.HalfLaws.{half_left}
+use Rattle.store_answers.proofs.BytesLeftLaws.{left_fewer, risen_more, sized_any}
 use Rattle.store_answers.proofs.KeepLaws.{length-records_of}
 use Rattle.store_model.proofs.GoingOnLaws.{can_go, goes_with, sums_anew, with_maps}
 
@@ -268,29 +272,8 @@ module _ {C : ℕ} (began : Began C) (s : Inside C) (v : Phase C) (g : IsGoing b
     abbrev seen_next : StoreValue
     seen_next = seen (Some v2) fewer next
 
-    pub moved_makes : MovesOne seen_now seen_next hand a d
-    moved_makes =
-        let o = made.move.object in
-        record {
-          name = o.name;
-          spot = o.spot;
-          place = made.move.mv.to;
-          there = o.there;
-          now_there = o.now;
-          row = subst (λ n. x2.moved ≡ added x1.moved n) (sym o.size) made.move.row;
-          saved = made.move.saved;
-          pair = made.move.pair;
-          kept = made.move.kept;
-          turns = subst (λ n. d.turn ≤ a.turn + calls_of_save made.move.saved n + pieces 65536 o.spot.size)
-              (length-records_of s.hands.table.now g.goes.goes.hands.table.now_named)
-              (subst (λ n. d.turn ≤ a.turn + calls_of_save made.move.saved
-              (length (records_of s.hands.table.now)) + pieces 65536 n) (sym o.size) made.move.turns);
-          left = n;
-          in_hand = ap (λ (h : FlushInHand). Some h) hand_moved;
-          fewer = one;
-          some = omega (arith, g.steps, made.fewer, steps_some v2 hands2.table, one);
-          rest = λ i. record seen_next { asked = made.move.keeps.asked i };
-        }
+    moved_row : x2.moved ≡ added x1.moved made.move.object.spot.size
+    moved_row = subst (λ n. x2.moved ≡ added x1.moved n) (sym made.move.object.size) made.move.row
 
     pub moved_sums : SumsOfStep seen_now seen_next hand a d (Ok progress.Moved)
     moved_sums =
@@ -305,6 +288,50 @@ module _ {C : ℕ} (began : Began C) (s : Inside C) (v : Phase C) (g : IsGoing b
           few = few_since up;
           calls = subst (λ n. CallsSoFar a.turn d.turn x1.moved x2.moved 0 n (fin.len s.hands.table.now))
               (omega arith) (sums_next made.move (sums_begin made.from x1 a)).calls;
+        }
+
+    -- as many bytes fewer are left as the object has
+    moved_bytes : IsOpenRow x2.moved
+        → bytes_left_of seen_now ≡ bytes_left_of seen_next + made.move.object.spot.size
+    moved_bytes free =
+        let size = made.move.object.spot.size in
+        let then = cells_of began.moved in
+        let h = g.goes.goes.hands in
+        let any = sized_any s.hands.table.now (course_in v).numbers.reach h.table.now_named h.lower in
+        let rises = moved_sums.calls.later free in
+        let later : slice_index then (class_of size) ≤ slice_index x1.moved (class_of size) =
+        omega (
+          arith,
+          g.sums.calls.later (λ c. omega (arith, rises c, free c)) (class_of size),
+          ap (λ (r : List ℕ). slice_index r (class_of size)) g.moved,
+        ) in
+        left_fewer then x1.moved x2.moved size s.hands.table.now hands2.table.now any.0
+        (risen_more then x1.moved x2.moved size (omega (arith, class_below size, made.move.full)) moved_row
+        free later) any.1 made.move.sizes (moved_sums.few any.0 any.1)
+
+    pub moved_makes : MovesOne seen_now seen_next hand a d
+    moved_makes =
+        let o = made.move.object in
+        record {
+          name = o.name;
+          spot = o.spot;
+          place = made.move.mv.to;
+          there = o.there;
+          now_there = o.now;
+          row = moved_row;
+          saved = made.move.saved;
+          pair = made.move.pair;
+          kept = made.move.kept;
+          turns = subst (λ n. d.turn ≤ a.turn + calls_of_save made.move.saved n + pieces 65536 o.spot.size)
+              (length-records_of s.hands.table.now g.goes.goes.hands.table.now_named)
+              (subst (λ n. d.turn ≤ a.turn + calls_of_save made.move.saved
+              (length (records_of s.hands.table.now)) + pieces 65536 n) (sym o.size) made.move.turns);
+          left = n;
+          in_hand = ap (λ (h : FlushInHand). Some h) hand_moved;
+          fewer = one;
+          some = omega (arith, g.steps, made.fewer, steps_some v2 hands2.table, one);
+          bytes = moved_bytes;
+          rest = λ i. record seen_next { asked = made.move.keeps.asked i };
         }
 
     module _ (o : Origin) (half : HalfAgrees C seen_now hand o a) (told : IsTrue d.tells) where

@@ -8,6 +8,7 @@ use Rattle.map_model.specs.Maps.{Map}
 use Rattle.map_model.specs.Requests as ask
 use Rattle.map_model.specs.Requests.{Change, Reply}
 use Rattle.segment_layout.specs.Books.{is_quiet, next_book}
+use Rattle.extent_table.specs.Extents.{volume_of}
 use Rattle.flush_run.specs.Parts.{size_in}
 use Rattle.change_charges.specs.Sized.{IsSizedBy}
 use Rattle.store_answers.specs.declared.answers.Begun.{Begun}
@@ -16,6 +17,7 @@ use Rattle.store_answers.specs.declared.answers.Refusal.{Refusal}
 use Rattle.store_answers.specs.declared.answers.Refusal.TheVariants as why
 use Rattle.store_answers.specs.Answers.{is_disk_fault, refused_by, refused_reply}
 use Rattle.store_answers.specs.Changes.{IsQuietChange, NothingChanged}
+use Rattle.store_answers.specs.Facts.{bytes_left_of}
 use Rattle.store_answers.specs.Flushes.{IsFlushImage, flush_boundary, map_after, names_after, size_after}
 use Rattle.store_answers.specs.Keeps.{now_map}
 use Rattle.store_model.specs.Connection.{FlushInHand, IsConnected, RestsOnTable, StoreValue, base_of, kept_map, limits_of, state_of}
@@ -50,7 +52,8 @@ origin_of s c file rests = record {
 -- A flush is in hand that began with a change: the new object has its place, each other one stands where it
 -- stood, and each name has an object of the size that the change leaves it; the book after is the next one
 -- of any map whose objects had the sizes of what stood; the bytes of the change were asked for, and nothing
--- was moved or saved. Twice as many steps may come as there are names, and one.
+-- was moved or saved. Twice as many steps may come as there are names, and one; and they move at most twice
+-- the bytes of what stands.
 pub record HoldsFlush (c : Change) (old new : StoreValue) (h : FlushInHand) : Type 0 where
   pub is : new.in_hand ≡ Some h
   pub place : ℕ
@@ -61,6 +64,7 @@ pub record HoldsFlush (c : Change) (old new : StoreValue) (h : FlushInHand) : Ty
   pub asked : new.asked ≡ asked_after old c
   pub boundary : h.boundary ≡ flush_boundary old c
   pub steps : h.left ≡ 2 * names_after old c + 1
+  pub bytes : bytes_left_of new ≡ 2 * volume_of new.now
   pub began : h.began ≡ old.in_use.sequence
   pub moved_then : h.moved_then ≡ old.moved
   pub rest : new ≡ record old {

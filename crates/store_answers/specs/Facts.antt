@@ -1,8 +1,11 @@
 -- What a store tells of itself.
-use Rattle.std.specs.Prelude.{ℕ, ◌+◌, ◌-◌, ◌^◌, ◌||◌, if◌then◌else◌, nat_lt, List, [], ◌∷◌, Option, Some, None}
+use Rattle.std.specs.Prelude.{ℕ, ◌+◌, ◌-◌, ◌*◌, ◌^◌, ◌||◌, if◌then◌else◌, nat_lt, List, [], ◌∷◌, Option, Some, None}
 use Rattle.std.specs.FinMap as fin
+use Rattle.byte_ranges.specs.Lists.{sum_below}
+use Rattle.size_class.specs.Classes.{width}
 use Rattle.extent_table.specs.Extents.{volume_of}
 use Rattle.segment_layout.specs.Books.{version_of}
+use Rattle.flush_run.specs.Calls.{row_rise}
 use Rattle.store_answers.specs.declared.answers.Facts.{Facts}
 use Rattle.store_model.specs.Connection.{FlushInHand, StoreValue, live_cap}
 
@@ -20,6 +23,18 @@ abbrev pub moves_left_of : Option FlushInHand → ℕ
 moves_left_of None = 0
 moves_left_of (Some h) = h.left
 
+-- the bytes by which a ledger's row rose, of all classes together
+abbrev pub risen_by : List ℕ → List ℕ → ℕ
+risen_by old new = sum_below width (row_rise old new)
+
+-- how many bytes a flush in hand may still move: twice those of what stands, less those that it moved
+abbrev pub bytes_left_in : Option FlushInHand → ℕ → List ℕ → ℕ
+bytes_left_in None volume moved = 0
+bytes_left_in (Some h) volume moved = 2 * volume - risen_by h.moved_then moved
+
+abbrev pub bytes_left_of : StoreValue → ℕ
+bytes_left_of s = bytes_left_in s.in_hand (volume_of s.now) s.moved
+
 abbrev pub facts_of : StoreValue → Facts
 facts_of s = record {
   version = version_of s.book;
@@ -33,4 +48,5 @@ facts_of s = record {
   sequence = s.in_use.sequence;
   widest = widest_of s.book.caps;
   moves_left = moves_left_of s.in_hand;
+  bytes_left = bytes_left_of s;
 }

@@ -108,6 +108,8 @@ untold = record {
   left_since = λ turn image. ⊥;
   turn = 0;
   faults = 0;
+  weight = 0;
+  longest = 0;
   is_ready = true;
   last_mount = None;
 }

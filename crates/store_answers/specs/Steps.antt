@@ -12,7 +12,7 @@ use Rattle.map_model.specs.Maps.{Map}
 use Rattle.segment_layout.specs.Books.{volumes}
 use Rattle.table_rules.specs.Opening.{Opens}
 use Rattle.extent_table.specs.declared.spot.Spot.{Spot}
-use Rattle.flush_run.specs.Calls.{CallsSoFar, piece_calls}
+use Rattle.flush_run.specs.Calls.{CallsSoFar, IsOpenRow, piece_calls}
 use Rattle.flush_run.specs.MadeMoves.{calls_of_save}
 use Rattle.change_charges.specs.Sized.{IsSizedBy}
 use Rattle.store_answers.specs.declared.answers.Progress.{Progress}
@@ -20,6 +20,7 @@ use Rattle.store_answers.specs.declared.answers.Progress.TheVariants as progress
 use Rattle.store_answers.specs.declared.answers.Refusal.{Refusal}
 use Rattle.store_answers.specs.declared.answers.Refusal.TheVariants as why
 use Rattle.store_answers.specs.Answers.{is_disk_fault}
+use Rattle.store_answers.specs.Facts.{bytes_left_of}
 use Rattle.store_model.specs.Connection.{FlushInHand, IsConnected, RestsOnTable, StoreValue, base_of}
 use Rattle.store_model.specs.Halves.{HalfAgrees, IsHalfImage, IsHalfway, Origin}
 use Rattle.store_model.specs.Quiet.{added}
@@ -32,7 +33,7 @@ AnswersStep result = (result ≡ Ok progress.Moved) ⊎ (result ≡ Ok progress.
 
 -- One object was moved, whose bytes the ledger has gained, after a save of what stood or after none. The
 -- calls are at most those of the save and of the pieces of the object. One step fewer is left, and at least
--- one.
+-- one; and as many bytes fewer as the object has, where no number of the ledger stands at its last value.
 pub record MovesOne (old new : StoreValue) (h : FlushInHand) (before now : disk.State) : Type 0 where
   pub name : List ℕ
   pub spot : Spot
@@ -48,6 +49,7 @@ pub record MovesOne (old new : StoreValue) (h : FlushInHand) (before now : disk.
   pub in_hand : new.in_hand ≡ Some (record h { left = left })
   pub fewer : h.left ≡ left + 1
   pub some : 1 ≤ left
+  pub bytes : IsOpenRow new.moved → bytes_left_of old ≡ bytes_left_of new + spot.size
   pub rest : new ≡ record old {
     in_use = new.in_use;
     now = new.now;

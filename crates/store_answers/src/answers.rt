@@ -81,7 +81,7 @@ pub struct Stat {
 /// What a store tells of itself: the version of its tables, 1 or 2 (with digests); K and NAMES of its
 /// superblock; how many names may be live; how many names and bytes there are, now and at the last checkpoint;
 /// the sequence of that; the most bytes that an object of its layout can have; and how many steps of the flush
-/// in hand may still come.
+/// in hand may still come, and how many bytes of objects these may still move.
 #[derive(Clone, Copy, Debug, PartialEq, Eq)]
 pub struct Facts {
     pub version: u8,
@@ -95,6 +95,7 @@ pub struct Facts {
     pub sequence: u64,
     pub widest: u64,
     pub moves_left: u64,
+    pub bytes_left: u64,
 }
 
 /// How long the data part is, and the sequence of the last checkpoint.

@@ -1,10 +1,12 @@
 //! What a store tells of itself at once.
-ghost use Rattle.std.specs.Prelude.{◌≡◌};
+ghost use Rattle.std.specs.Prelude.{◌≡◌, ◌-◌};
+ghost use Rattle.size_class.specs.Rows.{cells_of};
 ghost use Rattle.segment_layout.specs.Layouts.{caps_of};
-ghost use Rattle.store_answers.specs.Facts.{facts_of, moves_left_of, widest_of};
+ghost use Rattle.store_answers.specs.Facts.{bytes_left_of, facts_of, moves_left_of, risen_by, widest_of};
 
 use crate::{Facts, Store};
 use segment_layout::Layout;
+use size_class::Row;
 use slot_codec::cap;
 
 impl<const C: usize> Store<C> {
@@ -26,6 +28,7 @@ impl<const C: usize> Store<C> {
             sequence: hands.slots.sequence(),
             widest: widest(&hands.layout),
             moves_left: self.moves_left(),
+            bytes_left: self.bytes_left(),
         }
     }
 
@@ -38,6 +41,33 @@ impl<const C: usize> Store<C> {
             None => 0,
         }
     }
+
+    /// How many bytes of objects the flush in hand may still move; 0 where none is.
+    fn bytes_left(&self) -> u64
+        ensures { result ≡ bytes_left_of self.now }
+    {
+        match &self.flush {
+            Some(_) => {
+                let hands = &*self.hands;
+                let most = 2 * hands.table.volume();
+                less_risen(most, &self.began.moved, &hands.ledger.moved)
+            }
+            None => 0,
+        }
+    }
+}
+
+/// A number less the bytes by which a row rose, or 0 where these are more.
+fn less_risen<const C: usize>(most: u64, then: &Row<C>, now: &Row<C>) -> u64
+    ensures { result ≡ most - risen_by (cells_of then.now) (cells_of now.now) }
+{
+    let old = then.cells();
+    let new = now.cells();
+    let mut left = most;
+    'classes: for c in 0..32 {
+        left = left.saturating_sub(new[c].saturating_sub(old[c]));
+    }
+    left
 }
 
 /// The greatest size of the greatest class that has a capacity, in bytes; 0 where none has.

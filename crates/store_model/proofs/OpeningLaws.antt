@@ -5,7 +5,7 @@ use Rattle.byte_ranges.specs.Ranges.{SameBelow, SameWithin}
 use Rattle.disk_face.specs.States as disk
 use Rattle.disk_face.specs.Frames.{Unchanged}
 use Rattle.disk_face.specs.Moments.{Leaves}
-use Rattle.disk_face.proofs.FrameLaws.{Stays-trans, Unchanged-trans, unchanged_itself}
+use Rattle.disk_face.proofs.FrameLaws.{Stays-trans, Unchanged-trans, asks_nothing, asks_then, unchanged_itself}
 use Rattle.disk_face.proofs.MomentLaws.{Leaves-none, Leaves-trans, Leaves-weaken}
 use Rattle.size_class.specs.Classes.{zero_row}
 use Rattle.size_class.specs.declared.TheConstants.{SIZE_MAX}
@@ -154,6 +154,7 @@ module _ {classes : ℕ} {t : choice.SlotTable} {m : Map} {b : Book} {before mid
     most = subst (λ n. MostCallsOf t.chosen.header.kind t m before.turn n) (sym same.same_turn)
         (no_calls t.chosen.header.kind t m before.turn);
     alone = λ settled low. same;
+    asks = λ settled. asks_then same.asks (asks_nothing mid) (omega arith) (omega arith) (omega arith);
   }
 
   -- an opening goes on
@@ -171,6 +172,8 @@ module _ {classes : ℕ} {t : choice.SlotTable} {m : Map} {b : Book} {before mid
     most = subst (λ n. MostCallsOf t.chosen.header.kind t m n now.turn) same.same_turn next.most;
     alone = λ settled low. Unchanged-trans same (next.alone settled
         (omega (arith, low, ap length file_stays)));
+    asks = λ settled. asks_then same.asks (next.asks settled) (omega arith) (omega arith)
+        (omega (arith, ap length file_stays));
   }
 
 -- ---- what was found, by other words

@@ -1,12 +1,13 @@
 -- The file of a settled table that was read, where opening cuts it or its disk fails.
-use Rattle.std.specs.Prelude.{◌≡◌, ℕ, ◌+◌, ◌-◌, ◌<◌, ◌≤◌, ◌^◌, nat_lt, List, length, Ok, Err, IsTrue, Result, refl}
+use Rattle.std.specs.Prelude.{◌≡◌, ℕ, ◌+◌, ◌*◌, ◌-◌, ◌<◌, ◌≤◌, ◌^◌, nat_lt, List, length, Ok, Err, IsTrue, Result, refl}
 use Rattle.std.proofs.Common.{arith, ap, sym, ◌∙◌, subst, inl, inr}
 use Rattle.std.proofs.lemmas.Bool.{cases_lt, lt-ltb, le-ltb, cond-false, cond-true}
 use Rattle.disk_face.specs.States as disk
 use Rattle.disk_face.specs.Counts.{HasCause, counted}
-use Rattle.disk_face.specs.Frames.{Unchanged}
+use Rattle.disk_face.specs.Frames.{Asks, Unchanged, call_weight}
 use Rattle.disk_face.specs.Moments.{Leaves}
 use Rattle.disk_face.specs.Writes.{KeepsDisk}
+use Rattle.disk_face.proofs.FrameLaws.{asks_nothing, asks_then}
 use Rattle.disk_face.proofs.MomentLaws.{Leaves-weaken}
 use Rattle.size_class.specs.declared.TheConstants.{SIZE_MAX}
 use Rattle.slot_codec.specs.Choice as choice
@@ -25,7 +26,7 @@ use Rattle.reopen.specs.declared.fault.OpenFault.TheVariants as fault_of
 use Rattle.reopen.specs.declared.state.Loaded.{Loaded}
 use Rattle.reopen.specs.Loads.{IsLoadedFrom, KeepsLoaded, book_loaded, digests_loaded, table_loaded}
 use Rattle.store_model.specs.Connection.{StoreValue, RestsOnTable, SameOnTable, base_of, opened_store}
-use Rattle.store_model.specs.Opened.{ContinuesFrom, IsCut, IsFoundImage, IsOpened, IsOpening, OpenCallsOf, OpensFound, LeavesAlone, MostCallsOf, RestsOnFound, found_base, most_found, turn_after_cut}
+use Rattle.store_model.specs.Opened.{AsksToCut, ContinuesFrom, IsCut, IsFoundImage, IsOpened, IsOpening, OpenCallsOf, OpensFound, LeavesAlone, MostCallsOf, RestsOnFound, found_base, most_found, turn_after_cut}
 use Rattle.table_rules.proofs.SequenceLaws.{sequence_of_table}
 use Rattle.store_model.proofs.OpeningLaws.{found_by, found_itself, found_low, found_one, found_spots, left_same, still_rests}
 use Rattle.store_model.proofs.OverLaws.{same_itself}
@@ -126,6 +127,15 @@ module _ {C : ℕ} (x : Loaded C) (loads : KeepsLoaded x) (still : x.header.kind
               | inr not ↦ omega (arith, (short told not).same_turn)
             ])
 
+        still_asks : AsksToCut u first last
+        still_asks settled = elim (cases_lt len (length first.file))
+            as (λ _. Asks (2 * call_weight) (length first.file) first last) [
+              | inl longer ↦ asks_then (cut told longer).asks (asks_nothing last) (omega arith)
+                  (omega (arith, longer)) (omega arith)
+              | inr not ↦ asks_then (short told not).asks (asks_nothing last) (omega arith) (omega arith)
+                  (omega arith)
+            ]
+
         still_alone : LeavesAlone u found_book first last
         still_alone settled low = short told (omega (arith, low, found_end))
 
@@ -147,6 +157,7 @@ module _ {C : ℕ} (x : Loaded C) (loads : KeepsLoaded x) (still : x.header.kind
               calls = tt;
               most = still_most told cut;
               alone = still_alone told cut;
+              asks = still_asks told cut;
             });
         unchanged = tt;
         closed = λ told none. absurd (none _ _
@@ -231,6 +242,7 @@ module _ {C : ℕ} (x : Loaded C) (loads : KeepsLoaded x) (still : x.header.kind
               s) (sym still) done_turn;
           most = still_most told cut;
           alone = still_alone told cut;
+          asks = still_asks told cut;
         }
 
         done_opened : IsOpened C first.file last.file s

@@ -3,7 +3,7 @@ use Rattle.std.specs.Prelude.{◌≡◌, ◌⊎◌, ℕ, ◌+◌, ◌-◌, ◌*�
 use Rattle.byte_ranges.specs.Ranges.{SameBelow, SameWithin, resized}
 use Rattle.disk_face.specs.States as disk
 use Rattle.disk_face.specs.Counts.{counted}
-use Rattle.disk_face.specs.Frames.{Unchanged}
+use Rattle.disk_face.specs.Frames.{Asks, Unchanged, call_weight}
 use Rattle.disk_face.specs.Moments.{Leaves, Only, ResizedImage}
 use Rattle.disk_face.specs.Writes.{KeepsDisk}
 use Rattle.size_class.specs.Classes.{zero_row}
@@ -150,6 +150,11 @@ HasOpenCalls t m b file first now s = OpenCallsOf t.chosen.header.kind t m b fil
 
 -- ---- an opening
 
+-- An opening of a settled table asks for a cut and a sync at most, and for no greater length than there is.
+abbrev pub AsksToCut : choice.SlotTable → disk.State → disk.State → Type 0
+AsksToCut t before now = t.chosen.header.kind ≡ kind.Settled
+    → Asks (2 * call_weight) (length before.file) before now
+
 -- What opening does to a disk whose content opens by a table to a map and a book, whether it fails or not.
 -- The content opens to them still, and where the disk rested on the table so does all that a crash may leave
 -- meanwhile; then the disk rests on the table of the store. How many calls it makes is bounded, also where it
@@ -163,6 +168,7 @@ pub record OpensFound (classes : ℕ) (t : choice.SlotTable) (m : Map) (b : Book
   pub calls : IfOk result (HasOpenCalls t m b before.file before.turn now.turn)
   pub most : MostCallsOf t.chosen.header.kind t m before.turn now.turn
   pub alone : LeavesAlone t b before now
+  pub asks : AsksToCut t before now
 
 -- nothing changed where the refusal isn't that the disk failed
 abbrev pub RefusesUnchanged : disk.State → disk.State → OpenFault → Type 0
@@ -196,3 +202,4 @@ pub record IsCut {T E : Type 0} (len : ℕ) (before now : disk.State) (result : 
   pub only : OnOk result (Only now.file now.may_leave)
   pub all : OnOk result (now.turn ≡ counted before.turn 2)
   pub most : now.turn ≤ before.turn + 2
+  pub asks : Asks (2 * call_weight) len before now

@@ -22,6 +22,7 @@ const FRESH: Facts = Facts {
     sequence: 1,
     widest: 0,
     moves_left: 0,
+    bytes_left: 0,
 };
 
 /// Once 100 bytes were put by a flush, and 10 more quietly: class 6 has a capacity, of sizes up to 127.
@@ -40,6 +41,7 @@ const IN_HAND: Facts = Facts {
     live: 3,
     bytes: 115,
     moves_left: 7,
+    bytes_left: 230,
     ..TWO_PUT
 };
 
@@ -49,6 +51,7 @@ const SETTLED: Facts = Facts {
     kept_bytes: 115,
     sequence: 4,
     moves_left: 0,
+    bytes_left: 0,
     ..IN_HAND
 };
 

@@ -1,4 +1,4 @@
-use Rattle.std.proofs.Common.{◌+◌, ◌≡◌, ◌∙◌, ap, arith, length, take, [], ◌∷◌}
+use Rattle.std.proofs.Common.{◌+◌, ◌∙◌, ap, arith, length, take, [], ◌∷◌}
 use Rattle.lent_disk.specs.Calls.{number}
 use Rattle.lent_disk.proofs.Joined.{joined}
 use Rattle.lent_disk.proofs.bytes.append_entry.Goals as goal

@@ -5,3 +5,4 @@ pub returns-clause-noted : goal.returns-clause-noted
 returns-clause-noted c =
     noted_call c.apply_to-answer.new.store c.apply_to-answer.new.disk c.self.view_is c.empty_log.ensures
     c.apply_to-answer.ensures.frame.stays.same_mount c.is_noted.ensures.log c.is_noted.ensures.ended
+    c.is_noted.ensures.cause

@@ -1,4 +1,4 @@
-use Rattle.std.proofs.Common.{◌∙◌, List, ℕ, ap, length, refl}
+use Rattle.std.proofs.Common.{◌∙◌, List, ℕ, ap, refl}
 use Rattle.disk_history.specs.Histories.{fresh}
 use Rattle.lent_disk.specs.Disks.{lent_state}
 use Rattle.lent_disk.specs.Notings.{Noting, lent}

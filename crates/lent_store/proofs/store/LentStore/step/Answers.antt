@@ -26,3 +26,4 @@ returns-clause-noted c =
     noted_call c.step-answer.new.self c.step-answer.new.disk c.self.view_is c.empty_log.ensures
     c.step-answer.ensures.frame.stays.same_mount c.is_noted.ensures.log
     c.is_noted.ensures.ended
+    c.is_noted.ensures.cause
