@@ -7,8 +7,8 @@ use Rattle.disk_face.specs.Counts.{counted}
 use Rattle.map_model.specs.Requests.{Reply, Request}
 use Rattle.store_model.specs.States.{Chain, Limits, State, Step, served}
 use Rattle.ask_text.specs.Inputs.{HasText}
-use Rattle.ask_serve.specs.Serving.{acknowledges, calls_of}
-use Rattle.ask_serve.proofs.MakesLaws.{saves_few}
+use Rattle.ask_session.specs.Serving.{acknowledges, calls_of}
+use Rattle.ask_session.proofs.MakesLaws.{saves_few}
 use Rattle.ask_session.specs.Runs.{SomeStep, calls_since, last_kept, last_state, most_sequence}
 
 -- ---- lists that grow at their end

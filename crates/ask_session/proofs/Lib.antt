@@ -1,2 +1,13 @@
+pub mod AnswerLaws
+pub mod BodyLemmas
+pub mod KindLaws
+pub mod PutLaws
+pub mod ReplyLaws
+pub mod ReadReplyLaws
+pub mod RequestLemmas
+pub mod MakesLaws
+pub mod ServingLaws
+pub mod TooLongLaws
+pub mod StopLaws
 pub mod GrowingLaws
 pub mod RunLaws

@@ -25,9 +25,9 @@ use Rattle.store_model.specs.Stores.{IsStore}
 use Rattle.store_model.proofs.OverLaws.{kept_image}
 use Rattle.ask_text.specs.Inputs.{request_text}
 use Rattle.ask_text.specs.Replies.{reply_text}
-use Rattle.ask_serve.specs.Outside.{Outside}
+use Rattle.ask_session.specs.Outside.{Outside}
 use Rattle.ask_session.specs.Ready.{MayGoOn}
-use Rattle.ask_serve.specs.Serving.{IsServingImage, acknowledges, calls_of, is_changing, reply_at, served_at}
+use Rattle.ask_session.specs.Serving.{IsServingImage, acknowledges, calls_of, is_changing, reply_at, served_at}
 use Rattle.ask_session.specs.Sittings.{Sitting, unread}
 use Rattle.ask_session.specs.Turns.{IsAnswered, IsTurn}
 use Rattle.ask_text.specs.declared.ends.End.{End}
@@ -36,7 +36,7 @@ use Rattle.ask_text.specs.declared.ends.Turn.TheVariants as turn
 use Rattle.ask_text.specs.Ends.{is_budget}
 use Rattle.ask_session.specs.Runs.{HasRun, IsLastTurn, IsRunImage, IsStepImage, OpensToKept, calls_since, last_kept, most_sequence}
 use Rattle.ask_session.proofs.GrowingLaws.{and_none, last_more, texts_more, chain_more, some_more, some_last, kept_more, calls_more, chain_long, saves_within}
-use Rattle.ask_serve.proofs.MakesLaws.{MakesOne, MakesNone, makes}
+use Rattle.ask_session.proofs.MakesLaws.{MakesOne, MakesNone, makes}
 
 -- ---- one more request
 

@@ -1,5 +1,10 @@
-pub mod Ready
+pub mod Inputs
+pub mod Serving
+pub mod Outside
+pub mod ReplyLines
+pub mod Putting
 pub mod Sittings
+pub mod Ready
 pub mod Inside
 pub mod Turns
 pub mod Runs

@@ -17,12 +17,12 @@ use Rattle.ask_text.specs.Replies.{reply_text}
 use Rattle.ask_text.specs.declared.ends.End.{End}
 use Rattle.ask_text.specs.declared.ends.End.TheVariants as ends
 use Rattle.ask_text.specs.declared.ends.Turn.TheVariants as turn
-use Rattle.ask_serve.specs.Outside.{Held, Outside, Seen, outside_of}
-use Rattle.ask_serve.specs.Serving.{acknowledges, calls_of}
+use Rattle.ask_session.specs.Outside.{Held, Outside, Seen, outside_of}
+use Rattle.ask_session.specs.Serving.{acknowledges, calls_of}
 use Rattle.ask_session.specs.Sittings.{Sitting, unread}
 use Rattle.ask_text.specs.Ends.{is_budget, is_unserved}
 use Rattle.ask_session.specs.Turns.{IsTurn}
-use Rattle.ask_serve.specs.Inputs.{HasSourceCause}
+use Rattle.ask_session.specs.Inputs.{HasSourceCause}
 
 -- how many requests one run answers at most
 abbrev pub budget : ℕ

@@ -7,8 +7,8 @@ use Rattle.ask_text.specs.declared.ends.End.{End}
 use Rattle.ask_text.specs.declared.ends.End.TheVariants as ends
 use Rattle.ask_text.specs.declared.ends.Turn.{Turn}
 use Rattle.ask_text.specs.declared.ends.Turn.TheVariants as turn
-use Rattle.ask_serve.specs.Outside.{Outside, served_devices}
-use Rattle.ask_serve.specs.Serving.{Replies}
+use Rattle.ask_session.specs.Outside.{Outside, served_devices}
+use Rattle.ask_session.specs.Serving.{Replies}
 use Rattle.ask_session.specs.Sittings.{Sitting, unread}
 
 -- the counts stay

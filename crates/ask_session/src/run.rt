@@ -2,7 +2,7 @@
 ghost use Rattle.std.specs.Prelude.{◌≡◌, ◌≤◌, false, None};
 ghost use Rattle.disk_face.specs.Counts.{last};
 ghost use Rattle.store_model.specs.Stores.{IsStore};
-ghost use Rattle.ask_serve.specs.Outside.{held, seen_by};
+ghost use Rattle.ask_session.specs.Outside.{held, seen_by};
 ghost use Rattle.ask_session.specs.{Ready.{MayGoOn}, Runs.{EndsRun}};
 
 use crate::Session;

@@ -2,12 +2,12 @@
 ghost use Rattle.std.specs.Prelude.{◌≡◌, false, true, if◌then◌else◌, IfOk, IfErr, None};
 ghost use Rattle.disk_face.specs.Counts.{counted};
 ghost use Rattle.store_model.specs.Stores.{IsStore};
-ghost use Rattle.ask_serve.specs.{Inputs.{HasSourceCause}, Outside.{outside}};
+ghost use Rattle.ask_session.specs.{Inputs.{HasSourceCause}, Outside.{outside}};
 ghost use Rattle.ask_session.specs.{Ready.{MayGoOn}, Sittings.{new_sitting}, Turns.{IsTurn}};
 ghost use Rattle.ask_text.specs.Ends.{is_ended, is_unserved, result_of};
 
+use crate::{read_request, serve};
 use ask_lines::Ahead;
-use ask_serve::{read_request, serve};
 use ask_text::{End, Turn};
 use disk_face::{Disk, Sink, Source};
 use size_class::SIZE_MAX;

@@ -23,7 +23,7 @@ use Rattle.store_model.specs.Connection.{IsConnected, IsOver, RestsOnTable, Same
 use Rattle.store_model.specs.Opened.{LeavesRoom, RestsOnFound, most_found}
 use Rattle.store_model.specs.States as store
 use Rattle.store_model.specs.Stores.{IsStore}
-use Rattle.store_answers.specs.Changes.{NothingChanged}
+use Rattle.store_model.specs.Changes.{NothingChanged}
 use Rattle.served_file.specs.Served.{OpensTo, limits_with, most_left}
 use Rattle.served_file.proofs.OpeningLaws.{Opened, start_low}
 use Rattle.served_file.proofs.StartLaws.{LeavesStart, leaves_opened, left_mid, start_opens}

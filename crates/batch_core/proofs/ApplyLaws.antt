@@ -14,7 +14,7 @@ use Rattle.table_rules.specs.Sequences.{HasSequenceUpTo}
 use Rattle.table_rules.proofs.SequenceLaws.{sequence_wider}
 use Rattle.placement_model.specs.Reads.{EndWithin, read_at}
 use Rattle.placement_model.proofs.LaidOutLaws.{laid_within}
-use Rattle.change_charges.proofs.SizedLaws.{sized_read, sized_len}
+use Rattle.store_model.proofs.SizedLaws.{sized_read, sized_len}
 use Rattle.store_model.specs.Connection.{StoreValue, base_of, live_cap}
 use Rattle.store_model.proofs.OverLaws.{kept_image, same_itself}
 use Rattle.store_model.proofs.StoreLaws.{now_lies}

@@ -13,7 +13,7 @@ use Rattle.map_model.proofs.MapLaws.{remove-insert}
 use Rattle.ask_text.specs.Inputs.{request_text}
 use Rattle.store_model.specs.Connection.{live_cap}
 use Rattle.store_model.specs.Quiet.{del_of, put_of}
-use Rattle.store_answers.specs.Answers.{refused_by}
+use Rattle.store_model.specs.Answers.{refused_by}
 use Rattle.batch_model.specs.Batches.{IsBatch, IsPart, applied, batch_name, batch_text}
 use Rattle.batch_model.specs.Fits.{made}
 use Rattle.batch_model.specs.Parts.{CanStand, IsNoPart}
@@ -27,7 +27,7 @@ use Rattle.batch_core.specs.Making.{CanMake, Makes, left_by, most_raised, raised
 use Rattle.batch_core.specs.StoresOn.{StandsFor, StoreOn}
 use Rattle.batch_core.proofs.FitsLaws.{can_change, del_refused, keep_refused, part, put_refused, room_for}
 use Rattle.batch_core.proofs.GoesLaws.{can_go_then, goes_none, goes_one, goes_then, going, raised_low, stops_one, stops_then}
-use Rattle.change_charges.proofs.SizedLaws.{sized_len}
+use Rattle.store_model.proofs.SizedLaws.{sized_len}
 
 -- ---- the same, said otherwise
 

@@ -12,12 +12,12 @@ use Rattle.map_model.specs.Maps.{Map}
 use Rattle.map_model.specs.Requests as ask
 use Rattle.segment_layout.specs.Books.{Book, differs, is_damaged}
 use Rattle.extent_table.specs.declared.spot.Spot.{Spot}
-use Rattle.store_answers.specs.declared.answers.Refusal.{Refusal}
-use Rattle.store_answers.specs.declared.answers.Refusal.TheVariants as why
-use Rattle.store_answers.specs.Answers.{AnswersFetch, refusal_for, refused_by, size_at}
+use Rattle.store_model.specs.declared.answers.Refusal.{Refusal}
+use Rattle.store_model.specs.declared.answers.Refusal.TheVariants as why
+use Rattle.store_model.specs.Answers.{AnswersFetch, refusal_for, refused_by, size_at}
 use Rattle.data_area.proofs.CauseLaws.{calm_disk, disk_cause_as}
-use Rattle.store_answers.specs.Readings.{digest_read}
-use Rattle.store_answers.specs.Reads as reads
+use Rattle.store_model.specs.Readings.{digest_read}
+use Rattle.store_model.specs.Reads as reads
 use Rattle.store_model.specs.Connection.{IsOver, StoreValue, base_of}
 use Rattle.store_model.specs.Digested.{digest_of}
 use Rattle.store_model.specs.States.{State, object_in}

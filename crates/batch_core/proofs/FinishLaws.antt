@@ -12,8 +12,8 @@ use Rattle.map_model.specs.Requests.{Change}
 use Rattle.map_model.specs.Weights.{same_name}
 use Rattle.map_model.proofs.MapLaws.{name_order, same_name-is}
 use Rattle.extent_table.specs.declared.spot.Spot.{Spot}
-use Rattle.change_charges.specs.Sized.{IsSizedBy}
-use Rattle.store_answers.specs.Answers.{size_at}
+use Rattle.store_model.specs.Sized.{IsSizedBy}
+use Rattle.store_model.specs.Answers.{size_at}
 use Rattle.data_area.proofs.CauseLaws.{calm_disk}
 use Rattle.store_model.specs.Connection.{IsOver, SameOnTable, StoreValue, base_of, live_cap, state_of}
 use Rattle.store_model.specs.States.{State, object_in}
@@ -37,7 +37,7 @@ use Rattle.batch_core.proofs.FetchLaws.{gone_by, there, whole_by}
 use Rattle.batch_core.proofs.FitsLaws.{len_more}
 use Rattle.batch_core.proofs.GoesLaws.{goes_then, going, kept_left, stops_then}
 use Rattle.batch_core.proofs.RequestLaws.{sized_live}
-use Rattle.change_charges.proofs.SizedLaws.{sized_len}
+use Rattle.store_model.proofs.SizedLaws.{sized_len}
 
 -- ---- a disk that was read
 

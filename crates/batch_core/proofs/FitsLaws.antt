@@ -16,12 +16,12 @@ use Rattle.map_model.proofs.MapLaws.{name_order}
 use Rattle.extent_table.specs.Extents.{Spots}
 use Rattle.extent_table.specs.declared.spot.Spot.{Spot}
 use Rattle.flush_run.proofs.SizeLaws.{with_image}
-use Rattle.change_charges.specs.Sized.{IsSizedBy}
-use Rattle.change_charges.proofs.SizedLaws.{sized_entries, sized_len}
+use Rattle.store_model.specs.Sized.{IsSizedBy}
+use Rattle.store_model.proofs.SizedLaws.{sized_entries, sized_len}
 use Rattle.store_model.specs.Connection.{StoreValue, live_cap}
 use Rattle.store_model.specs.Quiet.{del_of, put_of}
 use Rattle.store_model.specs.States.{refused_from}
-use Rattle.store_answers.specs.Answers.{refusal_for, refused_by}
+use Rattle.store_model.specs.Answers.{refusal_for, refused_by}
 use Rattle.batch_model.specs.Batches.{IsBatch, IsPart, applied, batch_name}
 use Rattle.batch_model.specs.Fits.{misfit}
 use Rattle.batch_model.proofs.AppliedLaws.{applied-append}

@@ -8,20 +8,20 @@ use Rattle.map_model.specs.Maps.{Map}
 use Rattle.map_model.specs.Requests as ask
 use Rattle.map_model.specs.Requests.{Change, Reply, changed}
 use Rattle.segment_layout.specs.Books.{is_quiet, version_of}
-use Rattle.change_charges.specs.Sized.{IsSizedBy}
+use Rattle.store_model.specs.Sized.{IsSizedBy}
 use Rattle.store_model.specs.Connection.{IsConnected, StoreValue, limits_of}
 use Rattle.store_model.specs.Quiet.{charges_of}
 use Rattle.store_model.specs.States.{Served, State, Step, accepted, served}
 use Rattle.store_model.specs.Stores.{IsStore}
-use Rattle.store_answers.specs.declared.answers.Refusal.{Refusal}
-use Rattle.store_answers.specs.declared.answers.Refusal.TheVariants as why
-use Rattle.store_answers.specs.declared.answers.Done.{Done}
-use Rattle.store_answers.specs.Answers.{AnswersChange, done_reply, facts_at, refused_by, reply_of}
-use Rattle.store_answers.specs.Answers as store
-use Rattle.store_answers.specs.Changes.{IsQuietChange, NothingChanged}
-use Rattle.store_answers.specs.Changing.{IsChange}
-use Rattle.store_answers.specs.Flushes.{IsFlush, IsFlushImage, book_after, map_after}
-use Rattle.store_answers.specs.Keeps.{AnswersKeep, KeepsNow, OpensToKeptOrNow, kept_now, now_map}
+use Rattle.store_model.specs.declared.answers.Refusal.{Refusal}
+use Rattle.store_model.specs.declared.answers.Refusal.TheVariants as why
+use Rattle.store_model.specs.declared.answers.Done.{Done}
+use Rattle.store_model.specs.Answers.{AnswersChange, done_reply, facts_at, refused_by, reply_of}
+use Rattle.store_model.specs.Answers as store
+use Rattle.store_model.specs.Changes.{IsQuietChange, NothingChanged}
+use Rattle.store_model.specs.Changing.{IsChange}
+use Rattle.store_model.specs.Flushes.{IsFlush, IsFlushImage, book_after, map_after}
+use Rattle.store_model.specs.Keeps.{AnswersKeep, KeepsNow, OpensToKeptOrNow, kept_now, now_map}
 use Rattle.batch_core.specs.Doing.{CanGo, IsKeptNow}
 use Rattle.batch_core.specs.Making.{CanMake, IsDone, IsDoneAs, IsMakingImage, Makes, left_by, most_raised}
 use Rattle.batch_core.specs.StoresOn.{StandsFor, StoreOn, state_on}
@@ -29,7 +29,7 @@ use Rattle.batch_core.proofs.ServedLaws.{accepts, missing_at, missing_gone, next
 use Rattle.table_rules.specs.Sequences.{HasSequenceUpTo}
 use Rattle.table_rules.proofs.SequenceLaws.{sequence_wider}
 use Rattle.batch_core.proofs.RequestLaws.{flush_done, kept_is, missing_done, none_is, opens_as, quiet_done, same_content, same_left, sized_live}
-use Rattle.store_answers.proofs.AnsweredLaws.{served_is}
+use Rattle.store_model.proofs.AnsweredLaws.{served_is}
 
 -- ---- what an answer stands for
 

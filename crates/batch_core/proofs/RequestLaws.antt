@@ -16,18 +16,18 @@ use Rattle.extent_table.specs.Extents.{Spots}
 use Rattle.extent_table.specs.declared.spot.Spot.{Spot}
 use Rattle.placement_model.specs.Reads.{read_at}
 use Rattle.flush_run.specs.Parts.{size_in}
-use Rattle.change_charges.specs.Sized.{IsSizedBy}
-use Rattle.change_charges.proofs.SizedLaws.{sized_gone, sized_put}
+use Rattle.store_model.specs.Sized.{IsSizedBy}
+use Rattle.store_model.proofs.SizedLaws.{sized_gone, sized_put}
 use Rattle.store_model.specs.Connection.{IsOver, SameOnTable, StoreValue, RestsOnTable, base_of, limits_of, state_of}
 use Rattle.store_model.specs.Quiet.{charges_of}
 use Rattle.store_model.specs.States.{Served, State, Step, accepted, served}
 use Rattle.store_model.specs.Stores.{IsStore}
 use Rattle.store_model.proofs.OverLaws.{kept_image, same_itself}
-use Rattle.store_answers.specs.declared.answers.Refusal.{Refusal}
-use Rattle.store_answers.specs.Answers.{facts_at, refused_by}
-use Rattle.store_answers.specs.Changes.{ChangesQuietly, HasChanged, NothingChanged}
-use Rattle.store_answers.specs.Flushes.{ChangesByFlush}
-use Rattle.store_answers.proofs.QuietLaws.{quiet_by_book}
+use Rattle.store_model.specs.declared.answers.Refusal.{Refusal}
+use Rattle.store_model.specs.Answers.{facts_at, refused_by}
+use Rattle.store_model.specs.Changes.{ChangesQuietly, HasChanged, NothingChanged}
+use Rattle.store_model.specs.Flushes.{ChangesByFlush}
+use Rattle.store_model.proofs.QuietLaws.{quiet_by_book}
 use Rattle.batch_model.specs.Fits.{made_by}
 use Rattle.batch_model.proofs.AppliedLaws.{get-changed, remove-absent}
 use Rattle.batch_core.specs.Doing.{CanGo}
@@ -36,7 +36,7 @@ use Rattle.batch_core.specs.StoresOn.{RestsOn, StandsFor, StoreOn, state_on}
 use Rattle.batch_core.proofs.ServedLaws.{accepts, change_map, next_version, quiet_kept, served_live, version_same}
 use Rattle.table_rules.specs.Sequences.{HasSequenceUpTo}
 use Rattle.table_rules.proofs.SequenceLaws.{sequence_wider}
-use Rattle.store_answers.proofs.AnsweredLaws.{served_is}
+use Rattle.store_model.proofs.AnsweredLaws.{served_is}
 
 -- ---- names
 

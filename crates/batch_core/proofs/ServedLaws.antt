@@ -11,11 +11,11 @@ use Rattle.store_model.specs.Connection.{StoreValue, limits_of, state_of}
 use Rattle.store_model.specs.States.{Facts, Limits, State, accepted, refusal, refused_from, served, served_change}
 use Rattle.store_model.specs.Stores.{IsStore}
 use Rattle.store_model.proofs.DigestLaws.{next_digests}
-use Rattle.store_answers.specs.Answers.{facts_at, refusal_for, refused_by}
-use Rattle.store_answers.specs.declared.answers.Refusal.TheVariants as why
+use Rattle.store_model.specs.Answers.{facts_at, refusal_for, refused_by}
+use Rattle.store_model.specs.declared.answers.Refusal.TheVariants as why
 use Rattle.store_model.proofs.RequestLaws.{served_by}
-use Rattle.store_answers.proofs.StepLaws.{facts_same}
-use Rattle.store_answers.proofs.AnsweredLaws.{served_is}
+use Rattle.store_model.proofs.StepLaws.{facts_same}
+use Rattle.store_model.proofs.AnsweredLaws.{served_is}
 
 -- ---- refusals
 

@@ -10,10 +10,10 @@ use Rattle.size_class.specs.declared.TheConstants.{SIZE_MAX}
 use Rattle.map_model.specs.Requests as ask
 use Rattle.map_model.specs.Requests.{Change, Reply, Request}
 use Rattle.segment_layout.specs.Books.{is_damaged}
-use Rattle.store_answers.specs.declared.answers.Refusal.{Refusal}
-use Rattle.store_answers.specs.declared.answers.Refusal.TheVariants as why
-use Rattle.store_answers.specs.Answers.{size_at}
-use Rattle.store_answers.specs.Changes.{NothingChanged}
+use Rattle.store_model.specs.declared.answers.Refusal.{Refusal}
+use Rattle.store_model.specs.declared.answers.Refusal.TheVariants as why
+use Rattle.store_model.specs.Answers.{size_at}
+use Rattle.store_model.specs.Changes.{NothingChanged}
 use Rattle.store_model.specs.Connection.{IsConnected, StoreValue, limits_of, live_cap}
 use Rattle.store_model.specs.States.{Run, object_in}
 use Rattle.store_model.specs.Stores.{IsStore}

@@ -10,10 +10,10 @@ use Rattle.map_model.specs.Requests.{Change, Reply, Request, changed}
 use Rattle.segment_layout.specs.Books.{Book, version_of}
 use Rattle.table_rules.specs.Opening.{Opens}
 use Rattle.table_rules.specs.Sequences.{HasSequenceUpTo}
-use Rattle.store_answers.specs.Answers.{refused_by}
-use Rattle.store_answers.specs.declared.answers.Done.{Done}
-use Rattle.store_answers.specs.declared.answers.Refusal.{Refusal}
-use Rattle.store_answers.specs.declared.answers.Refusal.TheVariants as why
+use Rattle.store_model.specs.Answers.{refused_by}
+use Rattle.store_model.specs.declared.answers.Done.{Done}
+use Rattle.store_model.specs.declared.answers.Refusal.{Refusal}
+use Rattle.store_model.specs.declared.answers.Refusal.TheVariants as why
 use Rattle.store_model.specs.Connection.{IsConnected, StoreValue, kept_map, limits_of}
 use Rattle.store_model.specs.States.{Step}
 use Rattle.store_model.specs.Stores.{IsStore}

@@ -2,7 +2,7 @@
 use Rattle.std.specs.Prelude.{◌≡◌, IsTrue}
 use Rattle.disk_face.specs.States as disk
 use Rattle.map_model.specs.Maps.{Map}
-use Rattle.change_charges.specs.Sized.{IsSizedBy}
+use Rattle.store_model.specs.Sized.{IsSizedBy}
 use Rattle.store_model.specs.Connection.{RestsOnTable, StoreValue, base_of, state_of}
 use Rattle.store_model.specs.States.{State}
 

@@ -5,7 +5,7 @@ ghost use Rattle.disk_face.specs.Writes.{KeepsDisk};
 ghost use Rattle.map_model.specs.Requests.{Change};
 ghost use Rattle.slot_pair.specs.Finding.{HasDiskCause};
 ghost use Rattle.size_class.specs.declared.TheConstants.{SIZE_MAX};
-ghost use Rattle.store_answers.specs.Answers.{size_at};
+ghost use Rattle.store_model.specs.Answers.{size_at};
 ghost use Rattle.store_model.specs.{Connection.{IsConnected}, Stores.{IsStore}};
 ghost use Rattle.batch_model.specs.Batches.{IsBatch, batch_name};
 ghost use Rattle.batch_core.specs.{Answers.{Applies, Finishes, IsFetched, IsJudged, IsKeptText, IsReadBy, fetched_of}, Doing.{CanGo}, StoresOn.{store_on}};

@@ -4,7 +4,7 @@ ghost use Rattle.map_model.specs.Maps.{Map};
 ghost use Rattle.map_model.specs.Requests as ask;
 ghost use Rattle.batch_model.specs.Parts.{change_of};
 ghost use Rattle.batch_core.specs.{Doing.{CanGo, IsKeptNow}, Making.{CanMake, IsDoneAs, Makes}, StoresOn.{StandsFor, store_on}};
-ghost use Rattle.store_answers.specs.Answers.{refused_by};
+ghost use Rattle.store_model.specs.Answers.{refused_by};
 ghost use Rattle.store_model.specs.{Stores.{IsStore}, Quiet.{del_of, put_of}};
 
 use batch_model::part::Part;

@@ -6,11 +6,11 @@ use Rattle.disk_face.specs.Frames.{Stays}
 use Rattle.map_model.specs.Requests as ask
 use Rattle.map_model.specs.Requests.{Change}
 use Rattle.size_class.specs.declared.TheConstants.{CLASSES}
-use Rattle.store_answers.specs.declared.answers.Refusal.{Refusal}
-use Rattle.store_answers.specs.declared.answers.Done.{Done}
-use Rattle.store_answers.specs.Changes.{IsQuietChange, NothingChanged}
-use Rattle.store_answers.specs.Changing.{IsChange}
-use Rattle.store_answers.specs.Flushes.{IsFlush}
+use Rattle.store_model.specs.declared.answers.Refusal.{Refusal}
+use Rattle.store_model.specs.declared.answers.Done.{Done}
+use Rattle.store_model.specs.Changes.{IsQuietChange, NothingChanged}
+use Rattle.store_model.specs.Changing.{IsChange}
+use Rattle.store_model.specs.Flushes.{IsFlush}
 use Rattle.store_model.specs.Connection.{IsConnected, IsOver, limits_of, state_of}
 use Rattle.store_model.specs.States.{served}
 use Rattle.read_cache.specs.CacheValues.{CacheValue}

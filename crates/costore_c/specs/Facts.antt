@@ -1,11 +1,11 @@
 -- What a handle tells of its store, and of the next name.
 use Rattle.std.specs.Prelude.{◌≡◌, ◌<◌, ◌≤◌, ℤ, ℕ, pos, true, false, List, length, take, drop, Option, Some, None, Result, Ok, Err}
 use Rattle.map_model.specs.Requests as ask
-use Rattle.store_answers.specs.declared.answers.Refusal.{Refusal}
-use Rattle.store_answers.specs.declared.answers.Refusal.TheVariants as why
-use Rattle.store_answers.specs.Above.{first_above, next_answer}
-use Rattle.store_answers.specs.Answers.{refused_by}
-use Rattle.store_answers.specs.Facts.{facts_of}
+use Rattle.store_model.specs.declared.answers.Refusal.{Refusal}
+use Rattle.store_model.specs.declared.answers.Refusal.TheVariants as why
+use Rattle.store_model.specs.Above.{first_above, next_answer}
+use Rattle.store_model.specs.Answers.{refused_by}
+use Rattle.store_model.specs.Facts.{facts_of}
 use Rattle.store_model.specs.Lines.{listing_of}
 use Rattle.lent_store.specs.Embedded.{Embedded, file_in}
 use Rattle.costore_c.specs.Answers.{refusal_code, short_code}

@@ -9,8 +9,8 @@ use Rattle.slot_pair.specs.Finding.{HasDiskCause}
 use Rattle.ask_text.specs.declared.ends.End.{End}
 use Rattle.ask_text.specs.declared.ends.End.TheVariants as ends
 use Rattle.ask_text.specs.declared.ends.Turn.TheVariants as turn
-use Rattle.ask_serve.specs.Outside.{Held, Outside, Seen, outside_of}
-use Rattle.ask_serve.specs.Inputs.{is_source_fault}
+use Rattle.ask_session.specs.Outside.{Held, Outside, Seen, outside_of}
+use Rattle.ask_session.specs.Inputs.{is_source_fault}
 use Rattle.command_face.specs.Layers.{HasCausesAt}
 use Rattle.command_face.specs.declared.stop.StopReason.TheVariants as stop
 use Rattle.desk_core.specs.Benches.{Bench}

@@ -8,8 +8,8 @@ use Rattle.command_face.specs.Outcomes.{status_at}
 use Rattle.ask_text.specs.declared.ends.End.{End}
 use Rattle.ask_text.specs.declared.ends.End.TheVariants as ends
 use Rattle.ask_text.specs.declared.ends.Turn.TheVariants as turn
-use Rattle.ask_serve.specs.Outside.{Held, Outside, Seen, outside_of}
-use Rattle.ask_serve.specs.Serving.{PutsText, is_disk_fault}
+use Rattle.ask_session.specs.Outside.{Held, Outside, Seen, outside_of}
+use Rattle.ask_session.specs.Serving.{PutsText, is_disk_fault}
 use Rattle.desk_model.specs.Answers.{Answer, answer_text}
 use Rattle.desk_model.specs.Desks.{Desk, EventStep, Flush, end_lines}
 use Rattle.desk_model.specs.Events.{Event}

@@ -16,8 +16,8 @@ use Rattle.ask_text.specs.Ends.{is_budget}
 use Rattle.ask_text.specs.declared.ends.End.{End}
 use Rattle.ask_text.specs.declared.ends.End.TheVariants as ends
 use Rattle.ask_text.specs.declared.ends.Turn.TheVariants as turn
-use Rattle.ask_serve.specs.Outside.{Held, Seen, outside_of}
-use Rattle.ask_serve.specs.Serving.{is_disk_fault}
+use Rattle.ask_session.specs.Outside.{Held, Seen, outside_of}
+use Rattle.ask_session.specs.Serving.{is_disk_fault}
 use Rattle.desk_model.specs.Answers.{Answer}
 use Rattle.desk_model.specs.Desks.{Desk, Plays, last_desk, new_desk}
 use Rattle.desk_model.specs.Events.{Event}

@@ -11,16 +11,16 @@ use Rattle.map_model.specs.Maps.{Map}
 use Rattle.map_model.specs.Requests as ask
 use Rattle.map_model.specs.Requests.{Change, Refused, Reply, Request}
 use Rattle.segment_layout.specs.Books.{is_quiet, next_book}
-use Rattle.store_answers.specs.declared.answers.Begun.{Begun}
-use Rattle.store_answers.specs.declared.answers.Begun.TheVariants as begun
-use Rattle.store_answers.specs.declared.answers.Refusal.{Refusal}
-use Rattle.store_answers.specs.Answers.{refused_by}
-use Rattle.store_answers.specs.Begins.{BeginsChange, BeginsFlush, HoldsFlush, begun_reply, origin_of}
-use Rattle.store_answers.specs.Flushes.{IsFlushImage, map_after, names_after}
+use Rattle.store_model.specs.declared.answers.Begun.{Begun}
+use Rattle.store_model.specs.declared.answers.Begun.TheVariants as begun
+use Rattle.store_model.specs.declared.answers.Refusal.{Refusal}
+use Rattle.store_model.specs.Answers.{refused_by}
+use Rattle.store_model.specs.Begins.{BeginsChange, BeginsFlush, HoldsFlush, begun_reply, origin_of}
+use Rattle.store_model.specs.Flushes.{IsFlushImage, map_after, names_after}
 use Rattle.data_area.proofs.CauseLaws.{calm_disk}
-use Rattle.store_answers.proofs.MadeFlushLaws.{len_after}
-use Rattle.store_answers.proofs.QuietLaws.{quiet_by_book}
-use Rattle.store_answers.proofs.AnsweredLaws.{refusal_at, served_is}
+use Rattle.store_model.proofs.MadeFlushLaws.{len_after}
+use Rattle.store_model.proofs.QuietLaws.{quiet_by_book}
+use Rattle.store_model.proofs.AnsweredLaws.{refusal_at, served_is}
 use Rattle.store_model.proofs.RequestLaws.{served_by}
 use Rattle.store_model.specs.Connection.{FlushInHand, IsConnected, StoreValue, base_of, limits_of, state_of}
 use Rattle.store_model.specs.Quiet.{charges_of, quiet_calls}
@@ -31,11 +31,11 @@ use Rattle.sliced_laws.proofs.SlicedLaws.{begun_done, begun_failed, in_hand_mean
 use Rattle.ask_text.specs.declared.reply.Reply as text
 use Rattle.ask_text.specs.declared.reply.Reply.TheVariants as head
 use Rattle.ask_text.specs.declared.ends.End.{End}
-use Rattle.ask_serve.specs.Ready.{CanServe}
-use Rattle.ask_serve.specs.ReplyLines.{Answers, answer_of, is_kept}
-use Rattle.ask_serve.specs.Serving.{reply_at}
-use Rattle.ask_serve.proofs.AnswerLaws.{change_answers, none_is}
-use Rattle.ask_serve.proofs.ReplyLaws.{no_disk_fault, sink_calm, sink_serving}
+use Rattle.ask_session.specs.Ready.{CanServe}
+use Rattle.ask_session.specs.ReplyLines.{Answers, answer_of, is_kept}
+use Rattle.ask_session.specs.Serving.{reply_at}
+use Rattle.ask_session.proofs.AnswerLaws.{change_answers, none_is}
+use Rattle.ask_session.proofs.ReplyLaws.{no_disk_fault, sink_calm, sink_serving}
 use Rattle.desk_model.specs.Answers as answer
 use Rattle.desk_model.specs.Answers.{Answer}
 use Rattle.desk_model.specs.Desks.{Desk, Flush, TakesIf, begins, flush_by, with_queue}

@@ -18,8 +18,8 @@ use Rattle.store_model.specs.Stores.{IsStore}
 use Rattle.store_model.proofs.HalfLaws.{half_read}
 use Rattle.store_model.proofs.OverLaws.{kept_image}
 use Rattle.ask_text.specs.declared.ends.End.{End}
-use Rattle.ask_serve.specs.Serving.{IsServingImage, Serves, is_changing, is_disk_fault}
-use Rattle.ask_serve.proofs.MakesLaws.{makes}
+use Rattle.ask_session.specs.Serving.{IsServingImage, Serves, is_changing, is_disk_fault}
+use Rattle.ask_session.proofs.MakesLaws.{makes}
 use Rattle.desk_model.specs.Answers.{Answer}
 use Rattle.desk_model.specs.Desks.{Desk, Flush, StepsOn, TakesIf}
 use Rattle.desk_core.specs.Images.{BeganAt, Checkpoint, LeavesEnd, LeavesFrom, LeavesStep, OpensTo, RestsFrom, kept_of, settled_of}

@@ -4,7 +4,7 @@ use Rattle.std.proofs.Common.{ap, sym, ◌∙◌, subst, inl, inr}
 use Rattle.map_model.specs.Requests as ask
 use Rattle.map_model.specs.Requests.{Reply, Request}
 use Rattle.store_model.specs.States.{Limits, Served, State, served}
-use Rattle.ask_serve.proofs.MakesLaws.{MakesNone, MakesOne, makes}
+use Rattle.ask_session.proofs.MakesLaws.{MakesNone, MakesOne, makes}
 use Rattle.desk_model.specs.Answers.{Answer}
 use Rattle.desk_model.specs.Desks.{Desk, EventStep, Plays, SaysIf, ServesFirst, ServesIf, TakesIf, begins, has_room, queue_of, waits}
 use Rattle.desk_model.specs.Events as event

@@ -9,8 +9,8 @@ use Rattle.store_model.specs.States.{State}
 use Rattle.ask_text.specs.declared.ends.End.{End}
 use Rattle.ask_text.specs.declared.ends.End.TheVariants as ends
 use Rattle.ask_text.specs.declared.ends.Turn.TheVariants as turn
-use Rattle.ask_serve.specs.Outside.{Outside}
-use Rattle.ask_serve.specs.Serving.{IsServingFault}
+use Rattle.ask_session.specs.Outside.{Outside}
+use Rattle.ask_session.specs.Serving.{IsServingFault}
 use Rattle.ask_lines.proofs.LineLaws.{not_empty}
 use Rattle.desk_model.specs.Answers.{Answer}
 use Rattle.desk_model.specs.Desks.{Desk, EventStep, Flush, StepsOn, waiting}

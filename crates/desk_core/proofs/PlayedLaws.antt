@@ -15,7 +15,7 @@ use Rattle.ask_text.specs.Ends.{is_budget}
 use Rattle.ask_text.specs.declared.ends.End.{End}
 use Rattle.ask_text.specs.declared.ends.End.TheVariants as ends
 use Rattle.ask_text.specs.declared.ends.Turn.TheVariants as turn
-use Rattle.ask_serve.specs.Outside.{Outside}
+use Rattle.ask_session.specs.Outside.{Outside}
 use Rattle.desk_model.specs.Answers.{Answer, answer_text}
 use Rattle.desk_model.specs.Desks.{Desk, EventStep, Plays, last_desk}
 use Rattle.desk_model.specs.Events.{Event, IsEvent, event_text}

@@ -22,8 +22,8 @@ use Rattle.store_model.proofs.HalfLaws.{halfway_read}
 use Rattle.ask_text.specs.Replies.{reply_text}
 use Rattle.ask_text.specs.declared.ends.End.{End}
 use Rattle.ask_text.specs.declared.ends.End.TheVariants as ends
-use Rattle.ask_serve.specs.Serving.{GivesReply, IsServingFault, PutsText, reply_at}
-use Rattle.ask_serve.proofs.PutLaws.{puts_as, puts_cut, puts_then}
+use Rattle.ask_session.specs.Serving.{GivesReply, IsServingFault, PutsText, reply_at}
+use Rattle.ask_session.proofs.PutLaws.{puts_as, puts_cut, puts_then}
 use Rattle.desk_model.specs.Answers as answer
 use Rattle.desk_model.specs.Desks.{Desk, Flush, TakesIf, begins, is_read, waits, with_queue}
 use Rattle.desk_model.specs.Events.{line_for}

@@ -12,8 +12,8 @@ use Rattle.map_model.specs.Requests as request
 use Rattle.ask_text.specs.Asks.{IsAsk, ask_of, change_ask, line_of}
 use Rattle.ask_text.specs.Inputs.{change_body, request_text}
 use Rattle.ask_text.specs.declared.ask.Ask.{Ask}
-use Rattle.ask_serve.specs.Inputs.{BeginsRequest, HasBody, HoldsObject, size_asked}
-use Rattle.ask_serve.proofs.RequestLemmas.{read_bare, read_sized}
+use Rattle.ask_session.specs.Inputs.{BeginsRequest, HasBody, HoldsObject, size_asked}
+use Rattle.ask_session.proofs.RequestLemmas.{read_bare, read_sized}
 use Rattle.desk_core.specs.Hearing.{DropsObject, Hears}
 
 -- ---- texts of changes

@@ -13,7 +13,7 @@ use Rattle.ask_text.specs.Asks.{ask_of, change_ask}
 use Rattle.ask_text.specs.Inputs.{request_text}
 use Rattle.ask_text.specs.declared.ask.Ask.{Ask}
 use Rattle.ask_text.specs.declared.ends.End.{End}
-use Rattle.ask_serve.specs.Inputs.{size_asked}
+use Rattle.ask_session.specs.Inputs.{size_asked}
 use Rattle.desk_model.specs.Answers as answer
 use Rattle.desk_model.specs.Answers.{Answer}
 use Rattle.desk_model.specs.Desks.{Desk, Flush, ServesFirst, ServesIf, TakesIf, begins, is_read, queue_of, ring, texts_of, waits}

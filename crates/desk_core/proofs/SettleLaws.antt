@@ -6,8 +6,8 @@ use Rattle.disk_face.specs.States as disk
 use Rattle.disk_face.specs.Writes.{KeepsDisk}
 use Rattle.disk_face.proofs.FrameLaws.{Stays-trans, unchanged_itself}
 use Rattle.disk_face.proofs.MomentLaws.{Leaves-trans}
-use Rattle.store_answers.specs.declared.answers.Progress.{Progress}
-use Rattle.store_answers.specs.declared.answers.Progress.TheVariants as progress
+use Rattle.store_model.specs.declared.answers.Progress.{Progress}
+use Rattle.store_model.specs.declared.answers.Progress.TheVariants as progress
 use Rattle.store_model.specs.Connection.{StoreValue}
 use Rattle.store_model.specs.Halves.{IsHalfway}
 use Rattle.ask_text.specs.declared.ends.End.{End}

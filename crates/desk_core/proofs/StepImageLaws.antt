@@ -4,10 +4,10 @@ use Rattle.std.proofs.Common.{ap, sym, ◌∙◌, subst, inl, inr}
 use Rattle.disk_face.specs.Moments.{Leaves}
 use Rattle.disk_face.specs.States as disk
 use Rattle.disk_face.proofs.MomentLaws.{Leaves-weaken}
-use Rattle.store_answers.specs.declared.answers.Progress.{Progress}
-use Rattle.store_answers.specs.declared.answers.Progress.TheVariants as progress
-use Rattle.store_answers.specs.declared.answers.Refusal.{Refusal}
-use Rattle.store_answers.specs.Steps.{IsStep, MovesOne, Settles, StepsHalf}
+use Rattle.store_model.specs.declared.answers.Progress.{Progress}
+use Rattle.store_model.specs.declared.answers.Progress.TheVariants as progress
+use Rattle.store_model.specs.declared.answers.Refusal.{Refusal}
+use Rattle.store_model.specs.Steps.{IsStep, MovesOne, Settles, StepsHalf}
 use Rattle.store_model.specs.Connection.{FlushInHand, StoreValue}
 use Rattle.store_model.specs.Halves.{HalfAgrees, IsHalfImage, IsHalfway}
 use Rattle.ask_text.specs.declared.ends.End.TheVariants as ends

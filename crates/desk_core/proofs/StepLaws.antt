@@ -6,12 +6,12 @@ use Rattle.disk_face.specs.States as disk
 use Rattle.size_class.specs.declared.TheConstants.{SIZE_MAX}
 use Rattle.slot_codec.specs.declared.codec.SuperBlock.{SuperBlock}
 use Rattle.table_rules.specs.Opening.{Opens}
-use Rattle.store_answers.specs.declared.answers.Progress.{Progress}
-use Rattle.store_answers.specs.declared.answers.Progress.TheVariants as progress
-use Rattle.store_answers.specs.declared.answers.Refusal.{Refusal}
-use Rattle.store_answers.specs.declared.answers.Refusal.TheVariants as why
-use Rattle.store_answers.specs.Answers as store
-use Rattle.store_answers.specs.Steps.{AnswersStep, IsStep, MovesOne, Settles}
+use Rattle.store_model.specs.declared.answers.Progress.{Progress}
+use Rattle.store_model.specs.declared.answers.Progress.TheVariants as progress
+use Rattle.store_model.specs.declared.answers.Refusal.{Refusal}
+use Rattle.store_model.specs.declared.answers.Refusal.TheVariants as why
+use Rattle.store_model.specs.Answers as store
+use Rattle.store_model.specs.Steps.{AnswersStep, IsStep, MovesOne, Settles}
 use Rattle.store_model.specs.Connection.{FlushInHand, IsOver, StoreValue, state_of}
 use Rattle.store_model.specs.Halves.{HalfAgrees, IsHalfway, Origin}
 use Rattle.sliced_laws.proofs.GoingLaws.{pair_block, pair_later}

@@ -5,14 +5,14 @@ use Rattle.std.proofs.Common.{arith, ap, sym, ◌∙◌, subst, inl, inr, append
 use Rattle.disk_face.specs.States as disk
 use Rattle.disk_face.specs.Streams.{SinkState}
 use Rattle.map_model.specs.Requests as ask
-use Rattle.store_answers.specs.declared.answers.Progress.TheVariants as progress
+use Rattle.store_model.specs.declared.answers.Progress.TheVariants as progress
 use Rattle.store_model.specs.Connection.{FlushInHand, StoreValue}
 use Rattle.store_model.specs.Halves.{IsHalfway, IsReadable}
 use Rattle.ask_text.specs.Replies.{reply_text}
 use Rattle.ask_text.specs.declared.ends.End.{End}
 use Rattle.ask_text.specs.declared.ends.End.TheVariants as ends
-use Rattle.ask_serve.specs.Serving.{PutsText, is_disk_fault}
-use Rattle.ask_serve.proofs.PutLaws.{puts_as, puts_cut, puts_none, puts_then}
+use Rattle.ask_session.specs.Serving.{PutsText, is_disk_fault}
+use Rattle.ask_session.proofs.PutLaws.{puts_as, puts_cut, puts_none, puts_then}
 use Rattle.desk_model.specs.Answers as answer
 use Rattle.desk_model.specs.Answers.{Answer, answer_text}
 use Rattle.desk_model.specs.Desks.{Desk, Flush, StepsOn, end_lines, finished, waiting}

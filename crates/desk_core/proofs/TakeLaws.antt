@@ -8,8 +8,8 @@ use Rattle.disk_face.specs.Streams.{SinkState}
 use Rattle.map_model.specs.Requests as ask
 use Rattle.map_model.specs.Requests.{Change, Refused, Reply, Request}
 use Rattle.segment_layout.specs.Books.{next_book}
-use Rattle.store_answers.specs.declared.answers.Refusal.{Refusal}
-use Rattle.store_answers.specs.declared.answers.Refusal.TheVariants as why
+use Rattle.store_model.specs.declared.answers.Refusal.{Refusal}
+use Rattle.store_model.specs.declared.answers.Refusal.TheVariants as why
 use Rattle.data_area.proofs.CauseLaws.{calm_disk, calm_sink}
 use Rattle.store_model.proofs.RequestLaws.{served_by}
 use Rattle.store_model.specs.Connection.{StoreValue, limits_of, state_of}
@@ -18,12 +18,12 @@ use Rattle.ask_text.specs.Replies.{first_line, reply_line_of, reply_text, rest_o
 use Rattle.ask_text.specs.declared.reply.Reply as text
 use Rattle.ask_text.specs.declared.ends.End.{End}
 use Rattle.ask_text.specs.declared.ends.End.TheVariants as ends
-use Rattle.ask_serve.specs.Ready.{CanServe}
-use Rattle.ask_serve.specs.ReplyLines.{Answers, answer_of, is_kept}
-use Rattle.ask_serve.specs.Serving.{acknowledges, is_changing, reply_at}
-use Rattle.ask_serve.proofs.MakesLaws.{makes}
-use Rattle.ask_serve.proofs.PutLaws.{puts_as, puts_none}
-use Rattle.ask_serve.proofs.ReplyLaws.{no_disk_fault, sink_calm, sink_serving}
+use Rattle.ask_session.specs.Ready.{CanServe}
+use Rattle.ask_session.specs.ReplyLines.{Answers, answer_of, is_kept}
+use Rattle.ask_session.specs.Serving.{acknowledges, is_changing, reply_at}
+use Rattle.ask_session.proofs.MakesLaws.{makes}
+use Rattle.ask_session.proofs.PutLaws.{puts_as, puts_none}
+use Rattle.ask_session.proofs.ReplyLaws.{no_disk_fault, sink_calm, sink_serving}
 use Rattle.desk_model.specs.Answers as answer
 use Rattle.desk_model.specs.Answers.{Answer}
 use Rattle.desk_model.specs.Desks.{Desk, TakesIf, begins, flush_by, with_queue}

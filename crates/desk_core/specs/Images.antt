@@ -10,7 +10,7 @@ use Rattle.store_model.specs.Connection.{FlushInHand, RestsOnTable, StoreValue, 
 use Rattle.store_model.specs.Halves.{HalfAgrees, Origin}
 use Rattle.store_model.specs.States.{State}
 use Rattle.ask_text.specs.declared.ends.End.{End}
-use Rattle.ask_serve.specs.Serving.{acknowledges, is_disk_fault}
+use Rattle.ask_session.specs.Serving.{acknowledges, is_disk_fault}
 use Rattle.desk_model.specs.Answers as answer
 use Rattle.desk_model.specs.Answers.{Answer}
 use Rattle.desk_model.specs.Desks.{Desk, Flush}

@@ -10,8 +10,8 @@ use Rattle.slot_pair.specs.Finding.{HasDiskCause}
 use Rattle.slot_pair.specs.Saves.{save_calls}
 use Rattle.map_model.specs.Requests.{Request}
 use Rattle.data_area.specs.Causes.{HasSinkCause}
-use Rattle.store_answers.specs.declared.answers.Progress.{Progress}
-use Rattle.store_answers.specs.declared.answers.Progress.TheVariants as progress
+use Rattle.store_model.specs.declared.answers.Progress.{Progress}
+use Rattle.store_model.specs.declared.answers.Progress.TheVariants as progress
 use Rattle.store_model.specs.Connection.{FlushInHand, IsConnected, StoreValue, limits_of}
 use Rattle.flush_run.specs.Calls.{piece_calls}
 use Rattle.store_model.specs.Quiet.{added}
@@ -19,7 +19,7 @@ use Rattle.store_model.specs.States.{served}
 use Rattle.store_model.specs.Halves.{IsHalfway, IsReadable}
 use Rattle.ask_text.specs.declared.ends.End.{End}
 use Rattle.ask_text.specs.declared.ends.End.TheVariants as ends
-use Rattle.ask_serve.specs.Serving.{IsServingFault, PutsText, is_disk_fault}
+use Rattle.ask_session.specs.Serving.{IsServingFault, PutsText, is_disk_fault}
 use Rattle.desk_model.specs.Answers.{Answer, answer_text}
 use Rattle.desk_model.specs.Desks.{Desk, Flush, TakesIf, begins, end_lines, waits}
 use Rattle.desk_core.specs.Images.{Checkpoint, LeavesEnd, LeavesFrom, RestsFrom, kept_of, settled_of}

@@ -2,9 +2,9 @@
 use Rattle.std.specs.Prelude.{◌≡◌, ℕ, Bool, true, false, List, ◌++◌, codes, Result, Ok, Err, IfErr, IsTrue}
 use Rattle.disk_face.specs.Streams.{SinkState}
 use Rattle.data_area.specs.Causes.{HasSinkCause}
-use Rattle.store_answers.specs.declared.answers.Begun.{Begun}
-use Rattle.store_answers.specs.declared.answers.Begun.TheVariants as begun
-use Rattle.store_answers.specs.declared.answers.Refusal.{Refusal}
+use Rattle.store_model.specs.declared.answers.Begun.{Begun}
+use Rattle.store_model.specs.declared.answers.Begun.TheVariants as begun
+use Rattle.store_model.specs.declared.answers.Refusal.{Refusal}
 use Rattle.ask_text.specs.Replies.{first_line}
 use Rattle.ask_text.specs.declared.ask.Ask.{Ask}
 use Rattle.ask_text.specs.declared.ask.Ask.TheVariants as line
@@ -12,8 +12,8 @@ use Rattle.ask_text.specs.declared.reply.Reply.{Reply}
 use Rattle.ask_text.specs.declared.reply.Reply.TheVariants as head
 use Rattle.ask_text.specs.declared.ends.End.{End}
 use Rattle.ask_text.specs.declared.ends.End.TheVariants as ends
-use Rattle.ask_serve.specs.ReplyLines.{answer_of}
-use Rattle.ask_serve.specs.Serving.{PutsText}
+use Rattle.ask_session.specs.ReplyLines.{answer_of}
+use Rattle.ask_session.specs.Serving.{PutsText}
 use Rattle.desk_model.specs.Events.{line_for}
 
 -- the line of a request that may be served while a flush is in hand

@@ -11,9 +11,9 @@ use Rattle.ask_text.specs.declared.ends.End.{End}
 use Rattle.ask_text.specs.declared.ends.End.TheVariants as ends
 use Rattle.ask_text.specs.declared.ends.Turn.{Turn}
 use Rattle.ask_text.specs.declared.ends.Turn.TheVariants as turn
-use Rattle.ask_serve.specs.Inputs.{HasSourceCause}
-use Rattle.ask_serve.specs.Outside.{Outside}
-use Rattle.ask_serve.specs.Serving.{PutsText, is_disk_fault}
+use Rattle.ask_session.specs.Inputs.{HasSourceCause}
+use Rattle.ask_session.specs.Outside.{Outside}
+use Rattle.ask_session.specs.Serving.{PutsText, is_disk_fault}
 use Rattle.desk_model.specs.Desks.{Desk, EventStep, end_lines}
 use Rattle.desk_model.specs.Events.{BeginsNoEvent, Event, IsEvent, event_text}
 use Rattle.desk_core.specs.Benches.{Bench, unread}

@@ -3,7 +3,7 @@ ghost use Rattle.std.specs.Prelude.{◌≡◌, true, false, if◌then◌else◌,
 ghost use Rattle.disk_face.specs.Counts.{counted};
 ghost use Rattle.store_model.specs.Stores.{IsStore};
 ghost use Rattle.ask_text.specs.Ends.{is_ended};
-ghost use Rattle.ask_serve.specs.Outside.{outside};
+ghost use Rattle.ask_session.specs.Outside.{outside};
 ghost use Rattle.desk_core.specs.{Ready.{IsNewBench, MayGoOn}, Turns.{IsDeskTurn, KeepsBench, counted_bench, is_unread, turn_of}};
 
 use crate::event::{EventLine, read_event};

@@ -1,7 +1,7 @@
 //! Reading the line of an event.
 ghost use Rattle.std.specs.Prelude.{◌≡◌, ◌<◌, ◌++◌, [], ◌∷◌, ℕ, None, Err, IfErr, IfOk, IfSome, IsTrue, MatchOption};
 ghost use Rattle.std.specs.Fmt.{decimal};
-ghost use Rattle.ask_serve.specs.Inputs.{HasSourceCause, IsInputFault};
+ghost use Rattle.ask_session.specs.Inputs.{HasSourceCause, IsInputFault};
 ghost use Rattle.desk_model.specs.Events.{BeginsNoEvent};
 ghost use Rattle.desk_core.specs.Lines.{IsEventLine, words_of};
 

@@ -1,6 +1,6 @@
 //! What a session says.
 ghost use Rattle.std.specs.Prelude.{◌≡◌, ◌<◌, ◌++◌, true, length, IsTrue};
-ghost use Rattle.ask_serve.specs.Inputs.{HasSourceCause};
+ghost use Rattle.ask_session.specs.Inputs.{HasSourceCause};
 ghost use Rattle.data_area.specs.Causes.{HasSinkCause};
 ghost use Rattle.desk_model.specs.{Desks.{ring}, Events.{sessions}};
 ghost use Rattle.desk_core.specs.Hearing.{IsHeard, is_unheard, talk};

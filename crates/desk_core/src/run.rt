@@ -1,7 +1,7 @@
 //! A run of a desk: one event after another.
 ghost use Rattle.std.specs.Prelude.{◌≤◌};
 ghost use Rattle.disk_face.specs.Counts.{last};
-ghost use Rattle.ask_serve.specs.Outside.{held, seen_by};
+ghost use Rattle.ask_session.specs.Outside.{held, seen_by};
 ghost use Rattle.desk_core.specs.{Ready.{MayGoOn}, Runs.{EndsDesk}};
 
 use crate::Desk;

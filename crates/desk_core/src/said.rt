@@ -1,13 +1,13 @@
 //! Reading what a session says, which is the text of a request.
 ghost use Rattle.std.specs.Prelude.{◌≡◌, ◌≤◌, ◌<◌, ◌+◌, ◌++◌, ◌∷◌, [], ℕ, List, None, Err, IfErr, IfOk, IfSome, IsTrue, OnOk, drop, length, take};
 ghost use Rattle.size_class.specs.declared.TheConstants.{SIZE_MAX};
-ghost use Rattle.ask_serve.specs.Inputs.{HasSourceCause, HoldsObject, LacksObject};
+ghost use Rattle.ask_session.specs.Inputs.{HasSourceCause, HoldsObject, LacksObject};
 ghost use Rattle.ask_text.specs.{Asks.{IsAsk, line_of}, Inputs.{BeginsNone}};
 ghost use Rattle.desk_core.specs.Hearing.{DropsObject, Hears, IsTextFault};
 
 use arrayvec::ArrayVec;
 use ask_lines::{Ahead, fill, skip};
-use ask_serve::{object_size, read_first};
+use ask_session::{object_size, read_first};
 use ask_text::{Ask, End};
 use disk_face::{Source, SourceFault};
 

@@ -3,17 +3,17 @@ ghost use Rattle.std.specs.Prelude.{◌≡◌, ◌<◌, ◌≤◌, false, length
 ghost use Rattle.disk_face.specs.Devices.{devices};
 ghost use Rattle.map_model.specs.Requests as ask;
 ghost use Rattle.map_model.specs.Requests.{Request};
-ghost use Rattle.store_answers.specs.Readings.{asks_for};
+ghost use Rattle.store_model.specs.Readings.{asks_for};
 ghost use Rattle.store_model.specs.{Connection.{IsConnected}, Halves.{IsReadable}, Quiet.{del_of, put_of}, Stores.{IsStanding}};
 ghost use Rattle.ask_text.specs.Asks.{ask_of};
-ghost use Rattle.ask_serve.specs.{Inputs.{size_asked}, Ready.{CanServe}};
+ghost use Rattle.ask_session.specs.{Inputs.{size_asked}, Ready.{CanServe}};
 ghost use Rattle.desk_model.specs.Events.{sessions};
 ghost use Rattle.desk_queues.specs.Queues.{StandsIn};
 ghost use Rattle.desk_core.specs.{Playing.{TakesRequest, owned}, Telling.{TellsBegun, is_read_ask}};
 
 use crate::lines::{put_for, put_reply};
 use crate::served::Served;
-use ask_serve::{
+use ask_session::{
     answer_of, can_serve, serve_back, serve_get, serve_keep, serve_list, serve_old, serve_stat,
 };
 use ask_text::{Ask, End, Reply};

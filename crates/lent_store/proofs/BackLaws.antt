@@ -5,7 +5,7 @@ use Rattle.lent_disk.specs.Disks.{lent_state}
 use Rattle.lent_disk.specs.Notings.{Noting, content}
 use Rattle.size_class.specs.declared.TheConstants.{CLASSES}
 use Rattle.map_model.specs.Requests as ask
-use Rattle.store_answers.specs.declared.answers.Refusal.{Refusal}
+use Rattle.store_model.specs.declared.answers.Refusal.{Refusal}
 use Rattle.store_model.specs.Connection.{IsOver, StoreValue, limits_of, state_of}
 use Rattle.store_model.specs.Halves.{IsReadable}
 use Rattle.store_model.specs.States.{Step}

@@ -6,7 +6,7 @@ use Rattle.disk_face.specs.Frames.{Unchanged}
 use Rattle.disk_history.specs.Histories.{MayLeave}
 use Rattle.size_class.specs.declared.TheConstants.{CLASSES}
 use Rattle.map_model.specs.Requests.{Change}
-use Rattle.store_answers.specs.Changes.{NothingChanged}
+use Rattle.store_model.specs.Changes.{NothingChanged}
 use Rattle.store_model.specs.Connection.{RestsOnTable, SameOnTable, StoreValue, base_of}
 use Rattle.batch_core.specs.Answers.{Applies, Finishes, is_begun, is_disk, is_disk_fault, kept_text}
 use Rattle.batch_core.specs.declared.fault.BatchFault.{BatchFault}

@@ -14,16 +14,16 @@ use Rattle.map_model.specs.Requests as ask
 use Rattle.map_model.specs.Requests.{Reply, Request}
 use Rattle.segment_layout.specs.Books.{differs}
 use Rattle.extent_table.specs.declared.spot.Spot.{Spot}
-use Rattle.store_answers.specs.declared.answers.Moment.{Moment}
-use Rattle.store_answers.specs.declared.answers.Moment.TheVariants as moment
-use Rattle.store_answers.specs.declared.answers.Refusal.{Refusal}
-use Rattle.store_answers.specs.declared.answers.Refusal.TheVariants as why
-use Rattle.store_answers.specs.Answers.{AnswersFetch, AnswersNumber, facts_at, place_at, refusal_for, refused_by, size_at}
-use Rattle.store_answers.specs.Readings.{asks_for, digest_read, is_damaged_read, object_read, position_of, spot_read}
-use Rattle.store_answers.specs.Reads.{IsJudged}
-use Rattle.store_answers.proofs.AnsweredLaws.{live_if, number_served, served_is, some_there}
-use Rattle.store_answers.proofs.ReadLaws.{found_damaged, found_object, found_within}
-use Rattle.store_answers.proofs.ReadingLaws.{IsFound, whole_if_served}
+use Rattle.store_model.specs.declared.answers.Moment.{Moment}
+use Rattle.store_model.specs.declared.answers.Moment.TheVariants as moment
+use Rattle.store_model.specs.declared.answers.Refusal.{Refusal}
+use Rattle.store_model.specs.declared.answers.Refusal.TheVariants as why
+use Rattle.store_model.specs.Answers.{AnswersFetch, AnswersNumber, facts_at, place_at, refusal_for, refused_by, size_at}
+use Rattle.store_model.specs.Readings.{asks_for, digest_read, is_damaged_read, object_read, position_of, spot_read}
+use Rattle.store_model.specs.Reads.{IsJudged}
+use Rattle.store_model.proofs.AnsweredLaws.{live_if, number_served, served_is, some_there}
+use Rattle.store_model.proofs.ReadLaws.{found_damaged, found_object, found_within}
+use Rattle.store_model.proofs.ReadingLaws.{IsFound, whole_if_served}
 use Rattle.store_model.specs.Connection.{StoreValue, base_of, limits_of, state_of}
 use Rattle.store_model.specs.Halves.{IsReadable}
 use Rattle.store_model.specs.States.{object_in, refusal}

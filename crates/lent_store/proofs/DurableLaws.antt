@@ -15,20 +15,20 @@ use Rattle.map_model.specs.Requests.{Change, Request}
 use Rattle.segment_layout.specs.Books.{Book, is_quiet, with_digests}
 use Rattle.table_rules.specs.Opening.{placed_table}
 use Rattle.table_rules.specs.Tables.{book_of, map_of}
-use Rattle.store_answers.specs.declared.answers.Begun.{Begun}
-use Rattle.store_answers.specs.declared.answers.Begun.TheVariants as begun
-use Rattle.store_answers.specs.declared.answers.Done.{Done}
-use Rattle.store_answers.specs.declared.answers.Progress.{Progress}
-use Rattle.store_answers.specs.declared.answers.Progress.TheVariants as progress
-use Rattle.store_answers.specs.declared.answers.Refusal.{Refusal}
-use Rattle.store_answers.specs.Answers.{AnswersChange, facts_at, refusal_for, refused_by}
-use Rattle.store_answers.specs.Begins.{AnswersBegin, BeginsChange}
-use Rattle.store_answers.specs.Changes.{IsQuietChange, NothingChanged}
-use Rattle.store_answers.specs.Changing.{IsChange}
-use Rattle.store_answers.specs.Flushes.{book_after, map_after}
-use Rattle.store_answers.specs.Keeps.{AnswersKeep, IsKeep, OpensToKeptOrNow, now_map}
-use Rattle.store_answers.specs.Steps.{IsStep}
-use Rattle.store_answers.proofs.ReadingLaws.{whole_if_served}
+use Rattle.store_model.specs.declared.answers.Begun.{Begun}
+use Rattle.store_model.specs.declared.answers.Begun.TheVariants as begun
+use Rattle.store_model.specs.declared.answers.Done.{Done}
+use Rattle.store_model.specs.declared.answers.Progress.{Progress}
+use Rattle.store_model.specs.declared.answers.Progress.TheVariants as progress
+use Rattle.store_model.specs.declared.answers.Refusal.{Refusal}
+use Rattle.store_model.specs.Answers.{AnswersChange, facts_at, refusal_for, refused_by}
+use Rattle.store_model.specs.Begins.{AnswersBegin, BeginsChange}
+use Rattle.store_model.specs.Changes.{IsQuietChange, NothingChanged}
+use Rattle.store_model.specs.Changing.{IsChange}
+use Rattle.store_model.specs.Flushes.{book_after, map_after}
+use Rattle.store_model.specs.Keeps.{AnswersKeep, IsKeep, OpensToKeptOrNow, now_map}
+use Rattle.store_model.specs.Steps.{IsStep}
+use Rattle.store_model.proofs.ReadingLaws.{whole_if_served}
 use Rattle.store_model.specs.Connection.{FlushInHand, IsOver, RestsOnTable, SameOnTable, StoreValue, base_of, kept_map, limits_of}
 use Rattle.store_model.specs.Halves.{HalfAgrees, IsHalfImage, Origin}
 use Rattle.store_model.specs.Opened.{IsFresh}

@@ -5,16 +5,16 @@ use Rattle.disk_face.specs.States as disk
 use Rattle.map_model.specs.Requests as ask
 use Rattle.map_model.specs.Requests.{Change}
 use Rattle.segment_layout.specs.Books.{is_quiet}
-use Rattle.store_answers.specs.declared.answers.Begun.{Begun}
-use Rattle.store_answers.specs.declared.answers.Done.{Done}
-use Rattle.store_answers.specs.declared.answers.Refusal.{Refusal}
-use Rattle.store_answers.specs.Answers.{refused_by}
-use Rattle.store_answers.specs.Begins.{BeginsChange}
-use Rattle.store_answers.specs.Changes.{NothingChanged}
-use Rattle.store_answers.specs.Changing.{IsChange}
-use Rattle.store_answers.specs.Keeps.{KeepsNow}
+use Rattle.store_model.specs.declared.answers.Begun.{Begun}
+use Rattle.store_model.specs.declared.answers.Done.{Done}
+use Rattle.store_model.specs.declared.answers.Refusal.{Refusal}
+use Rattle.store_model.specs.Answers.{refused_by}
+use Rattle.store_model.specs.Begins.{BeginsChange}
+use Rattle.store_model.specs.Changes.{NothingChanged}
+use Rattle.store_model.specs.Changing.{IsChange}
+use Rattle.store_model.specs.Keeps.{KeepsNow}
 use Rattle.store_model.specs.Connection.{StoreValue}
-use Rattle.store_answers.specs.Upgrades.{Upgrades, idle_answer}
+use Rattle.store_model.specs.Upgrades.{Upgrades, idle_answer}
 use Rattle.store_model.specs.Quiet.{charges_of}
 use Rattle.lent_store.proofs.Cases.{by_cases, by_bool, by_option}
 

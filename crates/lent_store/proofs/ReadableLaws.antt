@@ -5,11 +5,11 @@ use Rattle.disk_face.specs.States as disk
 use Rattle.size_class.specs.declared.TheConstants.{CLASSES}
 use Rattle.lent_disk.specs.Disks.{lent_state}
 use Rattle.lent_disk.specs.Notings.{Noting, emptied}
-use Rattle.store_answers.specs.declared.answers.Progress.{Progress}
-use Rattle.store_answers.specs.declared.answers.Progress.TheVariants as progress
-use Rattle.store_answers.specs.declared.answers.Refusal.{Refusal}
+use Rattle.store_model.specs.declared.answers.Progress.{Progress}
+use Rattle.store_model.specs.declared.answers.Progress.TheVariants as progress
+use Rattle.store_model.specs.declared.answers.Refusal.{Refusal}
 use Rattle.std.specs.Prelude.{Result, Some}
-use Rattle.store_answers.specs.Steps.{GoesOnHalf, StepsHalf}
+use Rattle.store_model.specs.Steps.{GoesOnHalf, StepsHalf}
 use Rattle.store_model.specs.Connection.{FlushInHand, RestsOnTable, StoreValue, base_of}
 use Rattle.store_model.specs.Halves.{HalfAgrees, IsHalfway, IsReadable, Origin}
 

@@ -10,15 +10,15 @@ use Rattle.lent_disk.specs.Notings.{lent}
 use Rattle.map_model.specs.Requests as ask
 use Rattle.map_model.specs.Requests.{Change}
 use Rattle.segment_layout.specs.Books.{is_quiet}
-use Rattle.store_answers.specs.declared.answers.Begun.{Begun}
-use Rattle.store_answers.specs.declared.answers.Done.{Done}
-use Rattle.store_answers.specs.declared.answers.Refusal.{Refusal}
-use Rattle.store_answers.specs.Answers.{AnswersChange, is_disk_fault, refused_by}
-use Rattle.store_answers.specs.Begins.{AnswersBegin, BeginsChange}
-use Rattle.store_answers.specs.Changes.{NothingChanged}
-use Rattle.store_answers.specs.Changing.{IsChange}
-use Rattle.store_answers.specs.Keeps.{KeepsNow}
-use Rattle.store_answers.specs.Upgrades.{Upgrades, idle_answer}
+use Rattle.store_model.specs.declared.answers.Begun.{Begun}
+use Rattle.store_model.specs.declared.answers.Done.{Done}
+use Rattle.store_model.specs.declared.answers.Refusal.{Refusal}
+use Rattle.store_model.specs.Answers.{AnswersChange, is_disk_fault, refused_by}
+use Rattle.store_model.specs.Begins.{AnswersBegin, BeginsChange}
+use Rattle.store_model.specs.Changes.{NothingChanged}
+use Rattle.store_model.specs.Changing.{IsChange}
+use Rattle.store_model.specs.Keeps.{KeepsNow}
+use Rattle.store_model.specs.Upgrades.{Upgrades, idle_answer}
 use Rattle.store_model.specs.Connection.{RestsOnTable, SameOnTable, StoreValue, base_of}
 use Rattle.store_model.specs.Opened.{IsOpening, SameOnFound}
 use Rattle.store_model.specs.Quiet.{charges_of}

@@ -5,13 +5,13 @@ use Rattle.size_class.specs.declared.TheConstants.{CLASSES, SIZE_MAX}
 use Rattle.size_class.proofs.ClassLaws.{power_rises}
 use Rattle.map_model.specs.Requests as ask
 use Rattle.map_model.specs.Requests.{Change}
-use Rattle.change_charges.specs.Sized.{object_size}
+use Rattle.store_model.specs.Sized.{object_size}
 use Rattle.extent_table.specs.Extents.{volume_of}
-use Rattle.store_answers.specs.declared.answers.Refusal.{Refusal}
-use Rattle.store_answers.specs.Answers.{refused_by}
-use Rattle.store_answers.specs.Facts.{classes_in, widest_of}
-use Rattle.store_answers.proofs.FactsLaws.{classes_in-upto}
-use Rattle.store_answers.specs.Plans.{AcceptsName}
+use Rattle.store_model.specs.declared.answers.Refusal.{Refusal}
+use Rattle.store_model.specs.Answers.{refused_by}
+use Rattle.store_model.specs.Facts.{classes_in, widest_of}
+use Rattle.store_model.proofs.FactsLaws.{classes_in-upto}
+use Rattle.store_model.specs.Plans.{AcceptsName}
 use Rattle.store_model.specs.Connection.{StoreValue}
 use Rattle.store_model.specs.Stores.{IsStore}
 use Rattle.lent_store.specs.Embedded.{Embedded}

@@ -9,16 +9,16 @@ use Rattle.size_class.specs.declared.TheConstants.{CLASSES}
 use Rattle.lent_disk.specs.Disks.{lent_state}
 use Rattle.lent_disk.specs.Notings.{Noting, emptied}
 use Rattle.map_model.specs.Requests.{Change}
-use Rattle.store_answers.specs.declared.answers.Begun.{Begun}
-use Rattle.store_answers.specs.declared.answers.Begun.TheVariants as begun
-use Rattle.store_answers.specs.declared.answers.Progress.{Progress}
-use Rattle.store_answers.specs.declared.answers.Progress.TheVariants as progress
-use Rattle.store_answers.specs.declared.answers.Refusal.{Refusal}
-use Rattle.store_answers.specs.Begins.{AfterBegin, BeginsChange, BeginsFlush}
-use Rattle.store_answers.specs.Changes.{IsQuietChange, NothingChanged}
-use Rattle.store_answers.specs.Changing.{IsChange}
-use Rattle.store_answers.specs.Flushes.{names_after}
-use Rattle.store_answers.specs.Steps.{AfterStep, GoesOnHalf, IsStep, MakesOne, StepsHalf, SumsOfStep}
+use Rattle.store_model.specs.declared.answers.Begun.{Begun}
+use Rattle.store_model.specs.declared.answers.Begun.TheVariants as begun
+use Rattle.store_model.specs.declared.answers.Progress.{Progress}
+use Rattle.store_model.specs.declared.answers.Progress.TheVariants as progress
+use Rattle.store_model.specs.declared.answers.Refusal.{Refusal}
+use Rattle.store_model.specs.Begins.{AfterBegin, BeginsChange, BeginsFlush}
+use Rattle.store_model.specs.Changes.{IsQuietChange, NothingChanged}
+use Rattle.store_model.specs.Changing.{IsChange}
+use Rattle.store_model.specs.Flushes.{names_after}
+use Rattle.store_model.specs.Steps.{AfterStep, GoesOnHalf, IsStep, MakesOne, StepsHalf, SumsOfStep}
 use Rattle.store_model.specs.Connection.{FlushInHand, IsConnected, StoreValue}
 use Rattle.store_model.specs.Halves.{HalfAgrees, IsHalfway, Origin}
 use Rattle.sliced_laws.specs.Sliced.{GoesThrough, IsSliced, Pass, Point, as_one_call, moves}

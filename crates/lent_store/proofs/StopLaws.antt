@@ -17,17 +17,17 @@ use Rattle.map_model.specs.Requests as ask
 use Rattle.map_model.specs.Requests.{Change}
 use Rattle.segment_layout.specs.Books.{Book, is_quiet}
 use Rattle.table_rules.specs.Opening.{OpensBy}
-use Rattle.store_answers.specs.declared.answers.Done.{Done}
-use Rattle.store_answers.specs.declared.answers.Refusal.{Refusal}
-use Rattle.store_answers.specs.declared.answers.Begun.{Begun}
-use Rattle.store_answers.specs.declared.answers.Progress.{Progress}
-use Rattle.store_answers.specs.Answers.{refused_by}
-use Rattle.store_answers.specs.Begins.{BeginsChange}
-use Rattle.store_answers.specs.Changes.{NothingChanged}
-use Rattle.store_answers.specs.Changing.{IsChange}
-use Rattle.store_answers.specs.Keeps.{KeepsNow, OpensToKeptOrNow}
-use Rattle.store_answers.specs.Steps.{StepsHalf}
-use Rattle.store_answers.specs.Upgrades.{idle_answer}
+use Rattle.store_model.specs.declared.answers.Done.{Done}
+use Rattle.store_model.specs.declared.answers.Refusal.{Refusal}
+use Rattle.store_model.specs.declared.answers.Begun.{Begun}
+use Rattle.store_model.specs.declared.answers.Progress.{Progress}
+use Rattle.store_model.specs.Answers.{refused_by}
+use Rattle.store_model.specs.Begins.{BeginsChange}
+use Rattle.store_model.specs.Changes.{NothingChanged}
+use Rattle.store_model.specs.Changing.{IsChange}
+use Rattle.store_model.specs.Keeps.{KeepsNow, OpensToKeptOrNow}
+use Rattle.store_model.specs.Steps.{StepsHalf}
+use Rattle.store_model.specs.Upgrades.{idle_answer}
 use Rattle.store_model.specs.Connection.{FlushInHand}
 use Rattle.store_model.specs.Halves.{IsHalfImage, Origin}
 use Rattle.store_model.specs.Opened.{IsFoundImage, IsOpening, LeavesRoom, SameOnFound}

@@ -8,7 +8,7 @@ use Rattle.lent_disk.specs.Calls.{FitEntries, text_of}
 use Rattle.lent_disk.specs.Notings.{IsLog, LacksSpace}
 use Rattle.lent_disk.specs.Stops.{IsStopped}
 use Rattle.map_model.specs.Requests.{Change}
-use Rattle.store_answers.specs.Flushes.{IsFlushImage}
+use Rattle.store_model.specs.Flushes.{IsFlushImage}
 use Rattle.store_model.specs.Connection.{IsKeptImage, RestsOnTable, base_of}
 use Rattle.lent_store.specs.Embedded.{Embedded, disk_of, file_in}
 

@@ -5,10 +5,10 @@ use Rattle.byte_ranges.specs.Ranges.{bytes_at}
 use Rattle.size_class.specs.declared.TheConstants.{CLASSES}
 use Rattle.map_model.specs.Requests as ask
 use Rattle.map_model.specs.Requests.{Request}
-use Rattle.store_answers.specs.declared.answers.Refusal.{Refusal}
-use Rattle.store_answers.specs.declared.answers.Refusal.TheVariants as why
-use Rattle.store_answers.specs.Answers.{AnswersNumber, listed_into, refused_by, size_at}
-use Rattle.store_answers.specs.Readings.{is_damaged_read, object_read, spot_read}
+use Rattle.store_model.specs.declared.answers.Refusal.{Refusal}
+use Rattle.store_model.specs.declared.answers.Refusal.TheVariants as why
+use Rattle.store_model.specs.Answers.{AnswersNumber, listed_into, refused_by, size_at}
+use Rattle.store_model.specs.Readings.{is_damaged_read, object_read, spot_read}
 use Rattle.store_model.specs.Connection.{state_of}
 use Rattle.store_model.specs.Lines.{lines_of, listing_of}
 use Rattle.store_model.specs.States.{object_in}

@@ -5,9 +5,9 @@ use Rattle.size_class.specs.Classes.{class_of}
 use Rattle.map_model.specs.Requests as ask
 use Rattle.map_model.specs.Requests.{Change}
 use Rattle.extent_table.specs.Extents.{volume_of}
-use Rattle.change_charges.specs.Sized.{object_size}
-use Rattle.store_answers.specs.Answers.{refused_by, size_at}
-use Rattle.store_answers.specs.Facts.{widest_of}
+use Rattle.store_model.specs.Sized.{object_size}
+use Rattle.store_model.specs.Answers.{refused_by, size_at}
+use Rattle.store_model.specs.Facts.{widest_of}
 use Rattle.store_model.specs.Connection.{StoreValue}
 use Rattle.lent_store.specs.Embedded.{Embedded}
 

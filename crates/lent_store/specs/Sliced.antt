@@ -6,12 +6,12 @@ use Rattle.size_class.specs.declared.TheConstants.{CLASSES}
 use Rattle.lent_disk.specs.Disks.{lent_state}
 use Rattle.lent_disk.specs.Notings.{Noting}
 use Rattle.map_model.specs.Requests.{Change}
-use Rattle.store_answers.specs.declared.answers.Begun.TheVariants as begun
-use Rattle.store_answers.specs.declared.answers.Progress.{Progress}
-use Rattle.store_answers.specs.declared.answers.Progress.TheVariants as progress
-use Rattle.store_answers.specs.declared.answers.Refusal.{Refusal}
-use Rattle.store_answers.specs.Begins.{BeginsChange}
-use Rattle.store_answers.specs.Steps.{IsStep}
+use Rattle.store_model.specs.declared.answers.Begun.TheVariants as begun
+use Rattle.store_model.specs.declared.answers.Progress.{Progress}
+use Rattle.store_model.specs.declared.answers.Progress.TheVariants as progress
+use Rattle.store_model.specs.declared.answers.Refusal.{Refusal}
+use Rattle.store_model.specs.Begins.{BeginsChange}
+use Rattle.store_model.specs.Steps.{IsStep}
 use Rattle.store_model.specs.Connection.{IsConnected}
 use Rattle.store_model.specs.Stores.{IsStore}
 use Rattle.sliced_laws.specs.Sliced.{is_last}

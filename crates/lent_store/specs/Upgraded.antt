@@ -1,12 +1,12 @@
 -- What an upgrade does to a store over a file in memory, and what a crash leaves of it.
 use Rattle.std.specs.Prelude.{◌≡◌, ◌||◌, ℕ, List, None, IsSome, Result}
 use Rattle.size_class.specs.declared.TheConstants.{CLASSES}
-use Rattle.store_answers.specs.declared.answers.Done.{Done}
-use Rattle.store_answers.specs.declared.answers.Refusal.{Refusal}
-use Rattle.store_answers.specs.Answers.{is_disk_fault}
-use Rattle.store_answers.specs.Changes.{NothingChanged}
-use Rattle.store_answers.specs.Keeps.{OpensToKeptOrNow}
-use Rattle.store_answers.specs.Upgrades.{AnswersUpgrade, Upgrades, digests_now, idle_answer, upgraded}
+use Rattle.store_model.specs.declared.answers.Done.{Done}
+use Rattle.store_model.specs.declared.answers.Refusal.{Refusal}
+use Rattle.store_model.specs.Answers.{is_disk_fault}
+use Rattle.store_model.specs.Changes.{NothingChanged}
+use Rattle.store_model.specs.Keeps.{OpensToKeptOrNow}
+use Rattle.store_model.specs.Upgrades.{AnswersUpgrade, Upgrades, digests_now, idle_answer, upgraded}
 use Rattle.lent_store.specs.Embedded.{Embedded, disk_before, disk_of, file_in}
 
 -- it does nothing, with an answer that is known before, or gives each object its digest

@@ -2,7 +2,7 @@
 ghost use Rattle.std.specs.Prelude.{◌≡◌, ◌||◌, IsNone, IsSome, None};
 ghost use Rattle.size_class.specs.declared.TheConstants.{CLASSES};
 ghost use Rattle.map_model.specs.Requests as ask;
-ghost use Rattle.store_answers.specs.{Answers.{is_disk_fault, refused_by}, Begins.{BeginsChange}, Changes.{NothingChanged}, Changing.{IsChange}, Keeps.{AnswersKeep, KeepsNow}, Steps.{AnswersStep}};
+ghost use Rattle.store_model.specs.{Answers.{is_disk_fault, refused_by}, Begins.{BeginsChange}, Changes.{NothingChanged}, Changing.{IsChange}, Keeps.{AnswersKeep, KeepsNow}, Steps.{AnswersStep}};
 ghost use Rattle.store_model.specs.Quiet.{del_of, put_of};
 
 use crate::LentStore;

@@ -1,7 +1,7 @@
 //! What a store over a file in memory tells of itself, and its names one after another.
 ghost use Rattle.std.specs.Prelude.{◌≡◌};
 ghost use Rattle.map_model.specs.Requests as ask;
-ghost use Rattle.store_answers.specs.{Above.{first_above, next_answer}, Answers.{refused_by}, Facts.{facts_of}};
+ghost use Rattle.store_model.specs.{Above.{first_above, next_answer}, Answers.{refused_by}, Facts.{facts_of}};
 ghost use Rattle.store_model.specs.Lines.{listing_of};
 
 use crate::LentStore;

@@ -7,7 +7,7 @@ ghost use Rattle.map_model.specs.{Maps.{Map}, Requests.{Change}};
 ghost use Rattle.map_model.specs.Requests as ask;
 ghost use Rattle.segment_layout.specs.Books.{Book};
 ghost use Rattle.table_rules.specs.Opening.{OpensBy};
-ghost use Rattle.store_answers.specs.{declared.answers.Begun.{Begun}, declared.answers.Done.{Done}, declared.answers.Progress.{Progress}, declared.answers.Refusal.{Refusal}, Answers.{refused_by}, Begins.{BeginsChange}, Changes.{NothingChanged}, Changing.{IsChange}, Keeps.{KeepsNow, OpensToKeptOrNow}, Steps.{IsStep}};
+ghost use Rattle.store_model.specs.{declared.answers.Begun.{Begun}, declared.answers.Done.{Done}, declared.answers.Progress.{Progress}, declared.answers.Refusal.{Refusal}, Answers.{refused_by}, Begins.{BeginsChange}, Changes.{NothingChanged}, Changing.{IsChange}, Keeps.{KeepsNow, OpensToKeptOrNow}, Steps.{IsStep}};
 ghost use Rattle.store_model.specs.{Connection.{FlushInHand}, Halves.{HalfAgrees, IsHalfImage, Origin}, Opened.{IsFoundImage, IsOpening, LeavesRoom}};
 ghost use Rattle.lent_store.specs.{Embedded.{Embedded, disk_before, disk_of, file_in}, Noted.{IsChangeImage, IsNoted, IsNotedOf, RestsOnKept, StopsAt, StopsFrom}, Upgraded.{IsUpgradeImage, IsUpgraded}};
 

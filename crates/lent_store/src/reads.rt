@@ -4,7 +4,7 @@ ghost use Rattle.std.specs.FinMap as fin;
 ghost use Rattle.extent_table.specs.Extents.{volume_of};
 ghost use Rattle.map_model.specs.Requests as ask;
 ghost use Rattle.segment_layout.specs.Books.{book_end};
-ghost use Rattle.store_answers.specs.{Answers.{AnswersNumber, refused_by, size_at}, Readings.{asks_for, object_read, position_of, spot_read}};
+ghost use Rattle.store_model.specs.{Answers.{AnswersNumber, refused_by, size_at}, Readings.{asks_for, object_read, position_of, spot_read}};
 ghost use Rattle.lent_store.specs.Readings.{CanCopy, ListsInto, ReadsInto, StandsAt, object_answer, read_answer};
 
 use crate::LentStore;

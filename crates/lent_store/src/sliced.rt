@@ -1,7 +1,7 @@
 //! A flush of a store one move at a time.
 ghost use Rattle.std.specs.Prelude.{◌≡◌, IsSome, None, Ok};
 ghost use Rattle.size_class.specs.declared.TheConstants.{CLASSES};
-ghost use Rattle.store_answers.specs.{Begins.{BeginsChange}, Steps.{IsStep}};
+ghost use Rattle.store_model.specs.{Begins.{BeginsChange}, Steps.{IsStep}};
 ghost use Rattle.store_model.specs.Quiet.{del_of, put_of};
 
 use crate::LentStore;

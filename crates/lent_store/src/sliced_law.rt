@@ -2,7 +2,7 @@
 ghost use Rattle.std.specs.Prelude.{◌+◌, ◌*◌, ◌≤◌, length, Result};
 ghost use Rattle.size_class.specs.declared.TheConstants.{CLASSES};
 ghost use Rattle.map_model.specs.Requests.{Change};
-ghost use Rattle.store_answers.specs.{declared.answers.Progress.{Progress}, declared.answers.Refusal.{Refusal}, Changing.{IsChange}, Flushes.{names_after}};
+ghost use Rattle.store_model.specs.{declared.answers.Progress.{Progress}, declared.answers.Refusal.{Refusal}, Changing.{IsChange}, Flushes.{names_after}};
 ghost use Rattle.sliced_laws.specs.Sliced.{as_one_call};
 ghost use Rattle.lent_store.specs.{Embedded.{Embedded}, Sliced.{IsMadeBySteps, file_state}};
 

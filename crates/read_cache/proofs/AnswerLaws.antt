@@ -15,7 +15,7 @@ use Rattle.store_model.specs.Digested.{digest_of}
 use Rattle.store_model.specs.States.{Limits, Served, State, Step, facts_of, first_refusal, name_test, object_in, refusal, served, served_change}
 use Rattle.store_model.proofs.DigestLaws.{next_digests}
 use Rattle.store_model.proofs.RequestLaws.{served_by}
-use Rattle.store_answers.proofs.StepLaws.{read_reply}
+use Rattle.store_model.proofs.StepLaws.{read_reply}
 use Rattle.read_cache.specs.Lists.{is_name}
 
 -- two states have the same object under a name, which is to have the same digest

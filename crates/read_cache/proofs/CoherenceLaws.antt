@@ -21,15 +21,15 @@ use Rattle.flush_run.specs.Parts.{size_in}
 use Rattle.store_model.specs.Connection.{StoreValue, limits_of, state_of}
 use Rattle.store_model.specs.Quiet.{charges_of}
 use Rattle.store_model.specs.States.{Step, object_in, served}
-use Rattle.store_answers.specs.declared.answers.Refusal.{Refusal}
-use Rattle.store_answers.specs.declared.answers.Refusal.TheVariants as why
-use Rattle.store_answers.specs.declared.answers.Done.{Done}
-use Rattle.store_answers.specs.Answers.{AnswersChange, AnswersRead, done_reply, is_disk, is_disk_fault, refused_by, reply_of, size_at}
-use Rattle.store_answers.specs.Changes.{HasChanged, NothingChanged}
-use Rattle.store_answers.specs.Changing.{IsChange}
-use Rattle.store_answers.specs.Flushes.{size_after}
-use Rattle.store_answers.specs.Keeps.{AnswersKeep, KeepsNow}
-use Rattle.store_answers.specs.Readings.{IsRead}
+use Rattle.store_model.specs.declared.answers.Refusal.{Refusal}
+use Rattle.store_model.specs.declared.answers.Refusal.TheVariants as why
+use Rattle.store_model.specs.declared.answers.Done.{Done}
+use Rattle.store_model.specs.Answers.{AnswersChange, AnswersRead, done_reply, is_disk, is_disk_fault, refused_by, reply_of, size_at}
+use Rattle.store_model.specs.Changes.{HasChanged, NothingChanged}
+use Rattle.store_model.specs.Changing.{IsChange}
+use Rattle.store_model.specs.Flushes.{size_after}
+use Rattle.store_model.specs.Keeps.{AnswersKeep, KeepsNow}
+use Rattle.store_model.specs.Readings.{IsRead}
 use Rattle.read_cache.specs.Coherence.{IsCoherent, IsHeld}
 use Rattle.read_cache.specs.Gets.{ListsGet, is_sink, size_got}
 use Rattle.read_cache.specs.declared.got.Got.{Got}

@@ -20,18 +20,18 @@ use Rattle.store_model.specs.States.{object_in, refusal}
 use Rattle.store_model.specs.Stores.{IsStanding, IsStore}
 use Rattle.store_model.proofs.HalfLaws.{standing_of}
 use Rattle.store_model.proofs.StoreLaws.{now_lies}
-use Rattle.store_answers.specs.declared.answers.Moment.TheVariants as moment
-use Rattle.store_answers.specs.declared.answers.Refusal.{Refusal}
-use Rattle.store_answers.specs.declared.answers.Refusal.TheVariants as why
-use Rattle.store_answers.specs.Answers.{AnswersFetch, AnswersNumber, AnswersRead, AnswersSpot, facts_at, refusal_for, refused_by, size_at}
-use Rattle.store_answers.specs.Readings.{IsRead, digest_read, spot_read}
+use Rattle.store_model.specs.declared.answers.Moment.TheVariants as moment
+use Rattle.store_model.specs.declared.answers.Refusal.{Refusal}
+use Rattle.store_model.specs.declared.answers.Refusal.TheVariants as why
+use Rattle.store_model.specs.Answers.{AnswersFetch, AnswersNumber, AnswersRead, AnswersSpot, facts_at, refusal_for, refused_by, size_at}
+use Rattle.store_model.specs.Readings.{IsRead, digest_read, spot_read}
 use Rattle.data_area.specs.Causes.{HasSinkCause}
-use Rattle.store_answers.specs.Reads.{GivesObject, IsJudged}
-use Rattle.store_answers.proofs.AnsweredLaws.{live_if, number_refused, object_size, refusal_at, served_is, some_there}
+use Rattle.store_model.specs.Reads.{GivesObject, IsJudged}
+use Rattle.store_model.proofs.AnsweredLaws.{live_if, number_refused, object_size, refusal_at, served_is, some_there}
 use Rattle.data_area.proofs.CauseLaws.{calm_disk, calm_sink, sink_cause_as}
-use Rattle.store_answers.proofs.ReadLaws.{found_damaged, found_object, read_found, read_refused}
-use Rattle.store_answers.proofs.ReadingLaws.{IsFound, whole_if_served}
-use Rattle.store_answers.proofs.StepLaws.{read_reply}
+use Rattle.store_model.proofs.ReadLaws.{found_damaged, found_object, read_found, read_refused}
+use Rattle.store_model.proofs.ReadingLaws.{IsFound, whole_if_served}
+use Rattle.store_model.proofs.StepLaws.{read_reply}
 use Rattle.read_cache.specs.Coherence.{IsHeld}
 use Rattle.read_cache.specs.Gets.{ListsGet, is_sink, size_got}
 use Rattle.read_cache.specs.declared.got.Got.{Got}

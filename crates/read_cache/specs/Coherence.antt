@@ -4,7 +4,7 @@ use Rattle.std.specs.FinMap as fin
 use Rattle.std.specs.List.{AllByRecursion}
 use Rattle.disk_face.specs.States as disk
 use Rattle.map_model.specs.Requests as ask
-use Rattle.store_answers.specs.Answers.{size_at}
+use Rattle.store_model.specs.Answers.{size_at}
 use Rattle.store_model.specs.Connection.{StoreValue, limits_of, state_of}
 use Rattle.store_model.specs.States.{served}
 use Rattle.read_cache.specs.Lists.{Pair}

@@ -1,7 +1,7 @@
 -- What a get makes of the list.
 use Rattle.std.specs.Prelude.{◌≡◌, ℕ, Bool, true, false, ◌&&◌, if◌then◌else◌, List, is_some, length, Result, Ok, Err}
-use Rattle.store_answers.specs.declared.answers.Refusal.{Refusal}
-use Rattle.store_answers.specs.declared.answers.Refusal.TheVariants as why
+use Rattle.store_model.specs.declared.answers.Refusal.{Refusal}
+use Rattle.store_model.specs.declared.answers.Refusal.TheVariants as why
 use Rattle.read_cache.specs.declared.got.Got.{Got}
 use Rattle.read_cache.specs.Lists.{Listing, after_get, after_hit, listed}
 

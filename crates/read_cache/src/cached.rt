@@ -6,7 +6,7 @@ ghost use Rattle.size_class.specs.Rows.{cells_of};
 ghost use Rattle.map_model.specs.Requests as ask;
 ghost use Rattle.extent_table.specs.Extents.{volume_of};
 ghost use Rattle.segment_layout.specs.Books.{book_end};
-ghost use Rattle.store_answers.specs.Readings.{IsRead};
+ghost use Rattle.store_model.specs.Readings.{IsRead};
 ghost use Rattle.store_model.specs.{Connection.{IsConnected, state_of}, States.{object_in}, Stores.{IsStore}};
 ghost use Rattle.read_cache.specs.{Coherence.{IsCoherent}, Gets.{ListsGet, size_got}, Lists.{empty_listing, listed}};
 

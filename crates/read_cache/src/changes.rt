@@ -12,7 +12,7 @@ use slot_codec::Name;
 use store_core::{Done, Refusal};
 
 impl<const C: usize> Cached<C> {
-    ghost use Rattle.store_answers.specs.{Answers.{done_reply, is_disk_fault, refused_by, reply_of}, Changing.{IsChange}, Keeps.{IsKeep}};
+    ghost use Rattle.store_model.specs.{Answers.{done_reply, is_disk_fault, refused_by, reply_of}, Changing.{IsChange}, Keeps.{IsKeep}};
     ghost use Rattle.store_model.specs.{Connection.{IsConnected, IsOver, limits_of, state_of}, Quiet.{del_of, put_of}, States.{Step}, Stores.{IsStore}};
     ghost use Rattle.read_cache.specs.{Coherence.{IsCoherent}, Lists.{emptied, without}};
 

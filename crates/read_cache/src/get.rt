@@ -3,7 +3,7 @@ ghost use Rattle.std.specs.Prelude.{◌≡◌, ◌≤◌, ◌<◌, [], if◌then
 ghost use Rattle.std.specs.FinMap as fin;
 ghost use Rattle.disk_face.specs.{Devices.{devices}, Streams.{Puts}};
 ghost use Rattle.map_model.specs.Requests as ask;
-ghost use Rattle.store_answers.specs.{Answers.{refused_by, size_at}, Readings.{IsRead}};
+ghost use Rattle.store_model.specs.{Answers.{refused_by, size_at}, Readings.{IsRead}};
 ghost use Rattle.data_area.specs.Causes.{HasSinkCause};
 ghost use Rattle.store_model.specs.{Connection.{IsConnected, state_of}, States.{object_in}, Stores.{IsStore}};
 ghost use Rattle.read_cache.specs.{Coherence.{IsCoherent}, Gets.{ListsGet, size_got}, Lists.{after_drop, after_miss, listed}};

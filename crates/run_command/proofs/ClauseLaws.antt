@@ -4,10 +4,10 @@ use Rattle.std.proofs.Common.{arith, ap, ◌∙◌, subst, inl, inr}
 use Rattle.disk_face.specs.Counts.{Rose}
 use Rattle.size_class.specs.declared.TheConstants.{CLASSES}
 use Rattle.store_model.specs.Connection.{StoreValue}
-use Rattle.ask_serve.specs.Outside.{Held, Outside, Seen, outside_of}
+use Rattle.ask_session.specs.Outside.{Held, Outside, Seen, outside_of}
 use Rattle.ask_session.specs.Sittings.{Sitting, new_sitting}
 use Rattle.ask_session.specs.Runs.{EndsRun}
-use Rattle.ask_serve.specs.Inputs.{is_source}
+use Rattle.ask_session.specs.Inputs.{is_source}
 use Rattle.ask_session.specs.Turns.{IsStopped}
 use Rattle.ask_text.specs.declared.ends.End.{End}
 use Rattle.ask_text.specs.declared.ends.End.TheVariants as ends

@@ -7,8 +7,8 @@ use Rattle.size_class.specs.declared.TheConstants.{CLASSES}
 use Rattle.map_model.specs.Requests.{Reply, Request}
 use Rattle.store_model.specs.Connection.{StoreValue, limits_of, state_of}
 use Rattle.store_model.specs.States.{Chain, Limits, State}
-use Rattle.ask_serve.specs.Serving.{acknowledges}
-use Rattle.ask_serve.specs.Outside.{Held, Seen, held}
+use Rattle.ask_session.specs.Serving.{acknowledges}
+use Rattle.ask_session.specs.Outside.{Held, Seen, held}
 use Rattle.ask_session.specs.Sittings.{Sitting, new_sitting}
 use Rattle.ask_session.specs.Runs.{EndsRun, budget, last_kept}
 use Rattle.ask_session.specs.Turns.{SameCounts}

@@ -3,7 +3,7 @@ use Rattle.std.specs.Prelude.{◌≡◌, ℕ, ◌≤◌, List, [], Result, Ok, E
 use Rattle.std.proofs.Common.{arith, sym, ◌∙◌, subst, inl, inr, append-nil}
 use Rattle.disk_face.specs.Counts.{Rose}
 use Rattle.disk_face.specs.Streams.{SinkState}
-use Rattle.ask_serve.specs.Outside.{Outside, served_devices}
+use Rattle.ask_session.specs.Outside.{Outside, served_devices}
 use Rattle.command_face.specs.Outcomes.{Ends, EndsBy, PutsLast, PutsLine, line_at, status_at}
 use Rattle.run_command.specs.Sessions.{IsUnserved, KeepsRun}
 use Rattle.command_face.specs.declared.stop.StopReason.{StopReason}

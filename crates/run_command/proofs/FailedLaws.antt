@@ -25,8 +25,8 @@ use Rattle.store_model.specs.States.{Limits, Served, Step, served}
 use Rattle.store_model.specs.Opened.{IsFoundImage, LeavesRoom, RestsOnFound}
 use Rattle.ask_text.specs.Inputs.{Asks}
 use Rattle.ask_text.specs.Replies.{reply_text}
-use Rattle.ask_serve.specs.Serving.{IsFront, IsServingImage, is_changing, is_disk, reply_at, served_at}
-use Rattle.ask_serve.specs.Outside.{outside}
+use Rattle.ask_session.specs.Serving.{IsFront, IsServingImage, is_changing, is_disk, reply_at, served_at}
+use Rattle.ask_session.specs.Outside.{outside}
 use Rattle.ask_session.specs.Sittings.{Sitting, new_sitting, unread}
 use Rattle.ask_session.specs.Turns.{IsStopped}
 use Rattle.ask_session.specs.Runs as run

@@ -25,7 +25,7 @@ use Rattle.store_model.proofs.OpeningLaws.{found_image}
 use Rattle.reopen.specs.declared.fault.OpenFault.{OpenFault}
 use Rattle.reopen.specs.declared.fault.OpenFault.TheVariants as opening
 use Rattle.ask_text.specs.Inputs.{Asks}
-use Rattle.ask_serve.specs.Outside.{Held, Seen, held}
+use Rattle.ask_session.specs.Outside.{Held, Seen, held}
 use Rattle.ask_session.specs.Sittings.{Sitting, new_sitting}
 use Rattle.ask_text.specs.Ends.{is_unserved}
 use Rattle.ask_session.specs.Turns.{IsUnserved}

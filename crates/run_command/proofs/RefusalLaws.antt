@@ -1,7 +1,7 @@
 -- Where `run` ends with status 4, its file never opens.
 use Rattle.std.specs.Prelude.{◌≡◌, ℕ, List, IsTrue}
 use Rattle.std.proofs.Common.{arith, ap, sym, ◌∙◌, inl, inr}
-use Rattle.ask_serve.specs.Outside.{Held, Seen, held}
+use Rattle.ask_session.specs.Outside.{Held, Seen, held}
 use Rattle.served_file.specs.Unserved.{NeverServed}
 use Rattle.command_face.specs.declared.status.TheConstants.{NO_STORE}
 use Rattle.command_face.specs.Outcomes.{status_at}

@@ -11,9 +11,9 @@ use Rattle.store_model.proofs.RequestLaws.{served_by, served_sequence}
 use Rattle.ask_text.specs.Asks.{ask_of, line_of}
 use Rattle.ask_text.specs.Inputs.{Asks, BeginsNone, HasText, body_of, request_text}
 use Rattle.ask_text.proofs.InputLaws.{text_one, text_some}
-use Rattle.ask_serve.specs.Serving.{acknowledges}
+use Rattle.ask_session.specs.Serving.{acknowledges}
 use Rattle.ask_session.specs.Runs.{last_kept, last_state}
-use Rattle.ask_serve.proofs.MakesLaws.{makes}
+use Rattle.ask_session.proofs.MakesLaws.{makes}
 use Rattle.served_file.specs.Served.{IsKept, state_after}
 use Rattle.served_file.proofs.ShownLaws.{kept_later, now_kept, now_book, replied_as}
 

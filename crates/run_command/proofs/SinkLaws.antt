@@ -24,14 +24,14 @@ use Rattle.store_model.specs.States.{Limits, Served, Step, served}
 use Rattle.store_model.specs.Opened.{IsFoundImage, LeavesRoom, RestsOnFound}
 use Rattle.store_model.proofs.OverLaws.{kept_image}
 use Rattle.ask_text.specs.Inputs.{Asks}
-use Rattle.ask_serve.specs.Serving.{IsServingImage, is_changing, is_disk, reply_at, served_at}
-use Rattle.ask_serve.specs.Outside.{outside}
+use Rattle.ask_session.specs.Serving.{IsServingImage, is_changing, is_disk, reply_at, served_at}
+use Rattle.ask_session.specs.Outside.{outside}
 use Rattle.ask_session.specs.Sittings.{Sitting, new_sitting, unread}
 use Rattle.ask_session.specs.Turns.{IsStopped}
 use Rattle.ask_session.specs.Runs.{HasRun, budget, last_kept, last_state}
 use Rattle.ask_text.specs.declared.ends.End.{End}
 use Rattle.ask_session.proofs.GrowingLaws.{and_none, last_more, some_last, some_more}
-use Rattle.ask_serve.proofs.MakesLaws.{makes}
+use Rattle.ask_session.proofs.MakesLaws.{makes}
 use Rattle.ask_session.proofs.RunLaws.{opens_with}
 use Rattle.served_file.specs.Served.{EndsTight, IsNextStart, OpensTo, Ran, Starts, limits_with, most_left, turn_opened, found_with}
 use Rattle.run_command.specs.Headline.{IsLong, IsTold, IsWithinBounds, NumbersLine, RunHolds}

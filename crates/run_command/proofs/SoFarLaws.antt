@@ -23,7 +23,7 @@ use Rattle.store_model.specs.States.{Limits, Served, Step, served}
 use Rattle.store_model.specs.Opened.{IsFoundImage, LeavesRoom, RestsOnFound}
 use Rattle.store_model.proofs.OverLaws.{kept_image}
 use Rattle.ask_text.specs.Inputs.{Asks}
-use Rattle.ask_serve.specs.Outside.{outside}
+use Rattle.ask_session.specs.Outside.{outside}
 use Rattle.ask_session.specs.Sittings.{Sitting, new_sitting, unread}
 use Rattle.ask_session.specs.Runs as run
 use Rattle.ask_session.specs.Runs.{HasRun, IsRunImage, IsStepImage, budget, calls_since, last_kept, last_state, most_sequence}

@@ -21,7 +21,7 @@ use Rattle.command_face.specs.Refusing.{stop_of}
 use Rattle.command_face.specs.Refusing.{IsRefused}
 use Rattle.served_file.specs.Unserved.{NeverServed}
 use Rattle.run_command.specs.Headline.{HasMounted, IsKeptTurn, is_session}
-use Rattle.ask_serve.specs.Outside.{Held, Outside, Seen, held, outside, outside_of, served_devices}
+use Rattle.ask_session.specs.Outside.{Held, Outside, Seen, held, outside, outside_of, served_devices}
 use Rattle.ask_text.specs.declared.ends.End.{End}
 use Rattle.ask_text.specs.declared.ends.End.TheVariants as ends
 use Rattle.command_face.specs.Outcomes.{EndsBy, status_at, status_of}

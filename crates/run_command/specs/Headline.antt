@@ -20,7 +20,7 @@ use Rattle.store_model.specs.States.{Limits, State, served}
 use Rattle.store_model.specs.Opened.{ContinuesFrom, LeavesRoom, RestsOnFound}
 use Rattle.ask_text.specs.Inputs.{Asks}
 use Rattle.ask_text.specs.Replies.{reply_text}
-use Rattle.ask_serve.specs.Serving.{is_changing}
+use Rattle.ask_session.specs.Serving.{is_changing}
 use Rattle.ask_session.specs.Runs.{SomeStep, budget, calls_since, last_kept, last_state}
 use Rattle.command_face.specs.Outcomes.{PutsLast, line_at, status_at}
 use Rattle.command_face.specs.declared.stop.StopReason.{StopReason}

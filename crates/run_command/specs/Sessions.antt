@@ -10,7 +10,7 @@ use Rattle.store_model.specs.Connection.{StoreValue}
 use Rattle.store_model.specs.Opened.{IsOpening}
 use Rattle.store_model.specs.Stores.{IsStore}
 use Rattle.reopen.specs.declared.fault.OpenFault.{OpenFault}
-use Rattle.ask_serve.specs.Outside.{Held, Seen, held}
+use Rattle.ask_session.specs.Outside.{Held, Seen, held}
 use Rattle.ask_session.specs.Sittings.{Sitting, new_sitting}
 use Rattle.ask_session.specs.Runs.{EndsRun, budget}
 use Rattle.ask_text.specs.declared.ends.End.{End}

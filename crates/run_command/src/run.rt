@@ -2,7 +2,7 @@
 ghost use Rattle.std.specs.Prelude.{◌≡◌, ◌⊎◌, false, true, None, Ok, IsTrue};
 ghost use Rattle.size_class.specs.declared.TheConstants.{CLASSES};
 ghost use Rattle.store_model.specs.{Connection.{IsConnected}, Opened.{IsOpening}, Stores.{IsStore}};
-ghost use Rattle.ask_serve.specs.Outside.{held, seen_by};
+ghost use Rattle.ask_session.specs.Outside.{held, seen_by};
 ghost use Rattle.command_face.specs.{Mounting.{IsMounted}, Refusing.{IsRefused}, Outcomes.{Ends}};
 ghost use Rattle.served_file.specs.Unserved.{NeverServed};
 ghost use Rattle.run_command.specs.{Headline.{RunPromise, is_session}, Sessions.{RunAlways, OpenRunSteps, RunSteps, ended_as, unserved}};

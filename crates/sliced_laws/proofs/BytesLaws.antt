@@ -8,8 +8,8 @@ use Rattle.size_class.specs.Classes.{class_of, width}
 use Rattle.size_class.proofs.ClassLaws.{class_below}
 use Rattle.segment_layout.proofs.SumLaws.{sum_below_add, sum_below_le, sum_below_one, sum_below_zero}
 use Rattle.flush_run.specs.Calls.{IsOpenRow, row_rise}
-use Rattle.store_answers.specs.Facts.{bytes_left_of, risen_by}
-use Rattle.store_answers.proofs.BytesLeftLaws.{risen_none}
+use Rattle.store_model.specs.Facts.{bytes_left_of, risen_by}
+use Rattle.store_model.proofs.BytesLeftLaws.{risen_none}
 use Rattle.store_model.specs.Connection.{FlushInHand, StoreValue}
 use Rattle.store_model.specs.Quiet.{added}
 use Rattle.sliced_laws.specs.Sliced.{GoesThrough, Pass, Passes, Point}

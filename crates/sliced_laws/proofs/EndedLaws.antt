@@ -16,15 +16,15 @@ use Rattle.table_rules.specs.Opening.{Opens}
 use Rattle.flush_run.specs.Calls.{CallsSoFar, piece_calls}
 use Rattle.flush_run.specs.Parts.{size_in}
 use Rattle.flush_run.proofs.CallLaws.{calls_then, calls_wider}
-use Rattle.change_charges.specs.Sized.{IsSizedBy}
-use Rattle.store_answers.specs.declared.answers.Progress.{Progress}
-use Rattle.store_answers.specs.declared.answers.Progress.TheVariants as progress
-use Rattle.store_answers.specs.declared.answers.Refusal.{Refusal}
-use Rattle.store_answers.specs.Begins.{HoldsFlush, origin_of}
-use Rattle.store_answers.specs.Flushes.{ChangesByFlush, IsFlush, IsFlushImage, book_after, flush_boundary, map_after, names_after}
-use Rattle.store_answers.specs.Keeps.{now_map}
-use Rattle.store_answers.specs.Steps.{IsStep, Settles, StepsHalf, StopsFlush, SumsOfStep, failed_of, more_of}
-use Rattle.store_answers.proofs.MadeFlushLaws.{sized_after, sizes_after}
+use Rattle.store_model.specs.Sized.{IsSizedBy}
+use Rattle.store_model.specs.declared.answers.Progress.{Progress}
+use Rattle.store_model.specs.declared.answers.Progress.TheVariants as progress
+use Rattle.store_model.specs.declared.answers.Refusal.{Refusal}
+use Rattle.store_model.specs.Begins.{HoldsFlush, origin_of}
+use Rattle.store_model.specs.Flushes.{ChangesByFlush, IsFlush, IsFlushImage, book_after, flush_boundary, map_after, names_after}
+use Rattle.store_model.specs.Keeps.{now_map}
+use Rattle.store_model.specs.Steps.{IsStep, Settles, StepsHalf, StopsFlush, SumsOfStep, failed_of, more_of}
+use Rattle.store_model.proofs.MadeFlushLaws.{sized_after, sizes_after}
 use Rattle.store_model.specs.Connection.{FlushInHand, IsConnected, RestsOnTable, StoreValue, base_of}
 use Rattle.store_model.specs.Halves.{IsHalfImage}
 use Rattle.store_model.specs.Stores.{IsStore}

@@ -28,16 +28,16 @@ use Rattle.flush_run.specs.Parts.{SameSizes, size_in}
 use Rattle.flush_run.proofs.CallLaws.{calls_none, calls_then, calls_wider}
 use Rattle.flush_run.proofs.FlightLaws.{checkpoint_sequence, image_is_old_or_new}
 use Rattle.flush_run.proofs.SizeLaws.{sizes_len}
-use Rattle.change_charges.specs.Sized.{IsSizedBy}
-use Rattle.change_charges.proofs.SizedLaws.{sized_read}
-use Rattle.store_answers.specs.declared.answers.Begun.TheVariants as begun
-use Rattle.store_answers.specs.declared.answers.Progress.TheVariants as progress
-use Rattle.store_answers.specs.Begins.{BeginsFlush, HoldsFlush, origin_of}
-use Rattle.store_answers.specs.Changes.{NothingChanged}
-use Rattle.store_answers.specs.Flushes.{IsFlushImage, book_after, map_after, names_after, size_after}
-use Rattle.store_answers.specs.Keeps.{now_map}
-use Rattle.store_answers.specs.Steps.{IsStep, MovesOne}
-use Rattle.store_answers.proofs.MadeFlushLaws.{len_after}
+use Rattle.store_model.specs.Sized.{IsSizedBy}
+use Rattle.store_model.proofs.SizedLaws.{sized_read}
+use Rattle.store_model.specs.declared.answers.Begun.TheVariants as begun
+use Rattle.store_model.specs.declared.answers.Progress.TheVariants as progress
+use Rattle.store_model.specs.Begins.{BeginsFlush, HoldsFlush, origin_of}
+use Rattle.store_model.specs.Changes.{NothingChanged}
+use Rattle.store_model.specs.Flushes.{IsFlushImage, book_after, map_after, names_after, size_after}
+use Rattle.store_model.specs.Keeps.{now_map}
+use Rattle.store_model.specs.Steps.{IsStep, MovesOne}
+use Rattle.store_model.proofs.MadeFlushLaws.{len_after}
 use Rattle.store_model.specs.Connection.{FlushInHand, IsConnected, RestsOnTable, StoreValue, base_of, kept_map}
 use Rattle.store_model.specs.Halves.{HalfAgrees, IsHalfImage, frame_at}
 use Rattle.store_model.specs.Quiet.{asked_after}

@@ -15,23 +15,23 @@ use Rattle.extent_table.specs.Extents.{Spots}
 use Rattle.placement_model.specs.Reads.{read_at}
 use Rattle.flush_run.specs.Calls.{CallsSoFar, piece_calls}
 use Rattle.flush_run.proofs.CallLaws.{calls_none, calls_wider}
-use Rattle.store_answers.specs.declared.answers.Begun.{Begun}
-use Rattle.store_answers.specs.declared.answers.Begun.TheVariants as begun
-use Rattle.store_answers.specs.declared.answers.Done.{Done}
-use Rattle.store_answers.specs.declared.answers.Progress.{Progress}
-use Rattle.store_answers.specs.declared.answers.Progress.TheVariants as progress
-use Rattle.store_answers.specs.declared.answers.Refusal.{Refusal}
-use Rattle.store_answers.specs.declared.answers.Refusal.TheVariants as why
-use Rattle.store_answers.specs.Answers.{AnswersChange, is_disk_fault, refused_by}
-use Rattle.store_answers.specs.Begins.{AnswersBegin, BeginsChange, BeginsFlush, HoldsFlush}
-use Rattle.store_answers.specs.Changing.{IsChange}
-use Rattle.store_answers.specs.Flushes.{IsFlush, book_after, map_after, names_after}
-use Rattle.store_answers.specs.Steps.{AfterStep, AnswersStep, IsStep}
-use Rattle.store_answers.proofs.BegunServeLaws.{quiet_done, quiet_failed}
-use Rattle.store_answers.proofs.FlushChangeLaws.{IsServed, is_served}
-use Rattle.store_answers.proofs.FlushLaws.{flush_step}
-use Rattle.store_answers.proofs.QuietLaws.{quiet_by_book}
-use Rattle.store_answers.proofs.StepLaws.{facts_same}
+use Rattle.store_model.specs.declared.answers.Begun.{Begun}
+use Rattle.store_model.specs.declared.answers.Begun.TheVariants as begun
+use Rattle.store_model.specs.declared.answers.Done.{Done}
+use Rattle.store_model.specs.declared.answers.Progress.{Progress}
+use Rattle.store_model.specs.declared.answers.Progress.TheVariants as progress
+use Rattle.store_model.specs.declared.answers.Refusal.{Refusal}
+use Rattle.store_model.specs.declared.answers.Refusal.TheVariants as why
+use Rattle.store_model.specs.Answers.{AnswersChange, is_disk_fault, refused_by}
+use Rattle.store_model.specs.Begins.{AnswersBegin, BeginsChange, BeginsFlush, HoldsFlush}
+use Rattle.store_model.specs.Changing.{IsChange}
+use Rattle.store_model.specs.Flushes.{IsFlush, book_after, map_after, names_after}
+use Rattle.store_model.specs.Steps.{AfterStep, AnswersStep, IsStep}
+use Rattle.store_model.proofs.BegunServeLaws.{quiet_done, quiet_failed}
+use Rattle.store_model.proofs.FlushChangeLaws.{IsServed, is_served}
+use Rattle.store_model.proofs.FlushLaws.{flush_step}
+use Rattle.store_model.proofs.QuietLaws.{quiet_by_book}
+use Rattle.store_model.proofs.StepLaws.{facts_same}
 use Rattle.store_model.specs.Connection.{FlushInHand, IsConnected, StoreValue, base_of, kept_map, limits_of, state_of}
 use Rattle.store_model.specs.Quiet.{charges_of}
 use Rattle.store_model.specs.States.{Facts, Step, refusal}

@@ -4,15 +4,15 @@ use Rattle.disk_face.specs.Counts.{HasCause}
 use Rattle.disk_face.specs.States as disk
 use Rattle.disk_face.specs.Writes.{KeepsDisk}
 use Rattle.map_model.specs.Requests.{Change}
-use Rattle.store_answers.specs.declared.answers.Begun.TheVariants as begun
-use Rattle.store_answers.specs.declared.answers.Done.{Done}
-use Rattle.store_answers.specs.declared.answers.Progress.{Progress}
-use Rattle.store_answers.specs.declared.answers.Progress.TheVariants as progress
-use Rattle.store_answers.specs.declared.answers.Refusal.{Refusal}
-use Rattle.store_answers.specs.Answers.{is_disk_fault}
-use Rattle.store_answers.specs.Begins.{BeginsChange}
-use Rattle.store_answers.specs.Changes.{NothingChanged}
-use Rattle.store_answers.specs.Steps.{IsStep}
+use Rattle.store_model.specs.declared.answers.Begun.TheVariants as begun
+use Rattle.store_model.specs.declared.answers.Done.{Done}
+use Rattle.store_model.specs.declared.answers.Progress.{Progress}
+use Rattle.store_model.specs.declared.answers.Progress.TheVariants as progress
+use Rattle.store_model.specs.declared.answers.Refusal.{Refusal}
+use Rattle.store_model.specs.Answers.{is_disk_fault}
+use Rattle.store_model.specs.Begins.{BeginsChange}
+use Rattle.store_model.specs.Changes.{NothingChanged}
+use Rattle.store_model.specs.Steps.{IsStep}
 use Rattle.store_model.specs.Connection.{FlushInHand, IsConnected, StoreValue}
 use Rattle.store_model.specs.Halves.{HalfAgrees, Origin}
 use Rattle.store_model.specs.Stores.{IsStore}

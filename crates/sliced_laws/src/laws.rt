@@ -3,9 +3,9 @@ ghost use Rattle.std.specs.Prelude.{◌≡◌, ℕ, ◌+◌, ◌*◌, ◌≤◌,
 ghost use Rattle.map_model.specs.Requests as ask;
 ghost use Rattle.map_model.specs.Requests.{Change};
 ghost use Rattle.flush_run.specs.Calls.{IsOpenRow};
-ghost use Rattle.store_answers.specs.declared.answers.Begun.TheVariants as begun;
-ghost use Rattle.store_answers.specs.{declared.answers.Progress.{Progress}, declared.answers.Refusal.{Refusal}, Begins.{BeginsChange}, Changing.{IsChange}, Facts.{bytes_left_of, risen_by}, Flushes.{names_after}};
-ghost use Rattle.store_answers.specs.declared.answers.Progress.TheVariants as progress;
+ghost use Rattle.store_model.specs.declared.answers.Begun.TheVariants as begun;
+ghost use Rattle.store_model.specs.{declared.answers.Progress.{Progress}, declared.answers.Refusal.{Refusal}, Begins.{BeginsChange}, Changing.{IsChange}, Facts.{bytes_left_of, risen_by}, Flushes.{names_after}};
+ghost use Rattle.store_model.specs.declared.answers.Progress.TheVariants as progress;
 ghost use Rattle.store_model.specs.{Connection.{FlushInHand, StoreValue, limits_of, state_of}, States.{Step}};
 ghost use Rattle.sliced_laws.specs.Sliced.{GoesThrough, IsSliced, Pass, Point, as_one_call, moves};
 

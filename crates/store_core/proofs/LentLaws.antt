@@ -4,12 +4,12 @@ use Rattle.std.proofs.Common.{ap, sym, ◌∙◌, subst}
 use Rattle.flush_run.specs.declared.hands.Hands.{Hands}
 use Rattle.flush_run.specs.declared.phase.Phase.{Phase}
 use Rattle.segment_layout.specs.declared.layout.Layout.{Layout}
-use Rattle.store_answers.specs.Inside.{HoldsAt, Inside, IsGoing, IsWhole, kept_of, seen}
+use Rattle.store_model.specs.Inside.{HoldsAt, Inside, IsGoing, IsWhole, kept_of, seen}
 use Rattle.store_core.specs.Boxes.{IsWholeIn, kept_in, unboxed}
 use Rattle.store_core.specs.declared.store.Store.TheInside as store
 use Rattle.store_model.specs.Connection.{StoreValue}
-use Rattle.store_answers.proofs.InsideLaws.{AtRest, rest_at}
-use Rattle.store_answers.proofs.SteppedLaws.{StepsFrom}
+use Rattle.store_model.proofs.InsideLaws.{AtRest, rest_at}
+use Rattle.store_model.proofs.SteppedLaws.{StepsFrom}
 
 -- The fields of a store whose hands were lent, and its layout of the last checkpoint.
 abbrev pub lent : {C : ℕ} → store.Inside C → Hands C → Layout C → Inside C

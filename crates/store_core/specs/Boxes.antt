@@ -1,6 +1,6 @@
 -- A store's own fields, out of the boxes in which some stand.
 use Rattle.std.specs.Prelude.{ℕ}
-use Rattle.store_answers.specs.Inside.{HoldsAt, Inside, seen}
+use Rattle.store_model.specs.Inside.{HoldsAt, Inside, seen}
 use Rattle.store_core.specs.declared.store.Store.TheInside as store
 use Rattle.store_model.specs.Connection.{StoreValue}
 

@@ -5,7 +5,7 @@ ghost use Rattle.size_class.specs.Classes.{class_of as class_of_size};
 ghost use Rattle.segment_layout.specs.Layouts.{caps_of, divisor_of, grid_of};
 ghost use Rattle.extent_table.specs.Extents.{Extents};
 ghost use Rattle.flush_run.specs.{Parts.{parts_of}, Shelved.{items_now, phase_now}};
-ghost use Rattle.change_charges.specs.Starts.{IsWith};
+ghost use Rattle.store_model.specs.Starts.{IsWith};
 ghost use Rattle.store_model.specs.{Charges.{CanPut, ChargesParts, change_of}, Flushing.{CanStartAt, IsBegun, NeedsFlushAt, IsStarted, MayBegin, StartsPlaced, StartsWaiting, TakesOut}, Quiet.{del_of, put_of}};
 ghost use Rattle.flush_plan.specs.Lifts.{KeepsLifting};
 

@@ -9,7 +9,7 @@ use extent_table::Spot;
 use slot_codec::Name;
 
 impl<const C: usize> Store<C> {
-    ghost use Rattle.store_answers.specs.{Answers.{done_reply, refused_by, reply_of}, Changing.{IsChange}, Flushes.{ServesChange}};
+    ghost use Rattle.store_model.specs.{Answers.{done_reply, refused_by, reply_of}, Changing.{IsChange}, Flushes.{ServesChange}};
     ghost use Rattle.store_model.specs.{Connection.{IsConnected, limits_of, state_of}, Quiet.{del_of, put_of}, States.{Step}};
 
     /// Puts an object under a name, in place of the one that it has. Where there is room in the buffers

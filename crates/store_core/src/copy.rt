@@ -4,7 +4,7 @@ ghost use Rattle.byte_ranges.specs.Ranges.{bytes_at};
 ghost use Rattle.disk_face.specs.{Frames.{Unchanged}, Streams.{Puts}};
 ghost use Rattle.slot_pair.specs.Finding.{HasDiskCause};
 ghost use Rattle.data_area.specs.Causes.{HasSinkCause};
-ghost use Rattle.store_answers.specs.Reads.{PutsJudged};
+ghost use Rattle.store_model.specs.Reads.{PutsJudged};
 
 use crate::Refusal;
 use crate::faults::{disk_failed, sink_failed};

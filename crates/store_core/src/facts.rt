@@ -2,7 +2,7 @@
 ghost use Rattle.std.specs.Prelude.{◌≡◌, ◌-◌};
 ghost use Rattle.size_class.specs.Rows.{cells_of};
 ghost use Rattle.segment_layout.specs.Layouts.{caps_of};
-ghost use Rattle.store_answers.specs.Facts.{bytes_left_of, facts_of, moves_left_of, risen_by, widest_of};
+ghost use Rattle.store_model.specs.Facts.{bytes_left_of, facts_of, moves_left_of, risen_by, widest_of};
 
 use crate::{Facts, Store};
 use segment_layout::Layout;

@@ -4,7 +4,7 @@ ghost use Rattle.disk_face.specs.Frames.{Unchanged};
 ghost use Rattle.slot_pair.specs.Finding.{HasDiskCause};
 ghost use Rattle.extent_table.specs.Extents.{IsInRange};
 ghost use Rattle.placement_model.specs.Reads.{object_at};
-ghost use Rattle.store_answers.specs.{Readings.{asks_for, digest_read, object_read, spot_read}, Reads.{IsJudged}, Answers.{AnswersFetch, refused_by, size_at}};
+ghost use Rattle.store_model.specs.{Readings.{asks_for, digest_read, object_read, spot_read}, Reads.{IsJudged}, Answers.{AnswersFetch, refused_by, size_at}};
 ghost use Rattle.store_model.specs.{Connection.{base_of, state_of}, Halves.{IsReadable}, Stores.{IsStanding}};
 
 use crate::faults::disk_failed;

@@ -20,7 +20,7 @@ use flush_run::{Halted, Hands, run};
 use slot_codec::Name;
 
 impl<const C: usize> Store<C> {
-    ghost use Rattle.store_answers.specs.{Answers.{refused_by}, Flushes.{ServesChange}};
+    ghost use Rattle.store_model.specs.{Answers.{refused_by}, Flushes.{ServesChange}};
     ghost use Rattle.store_model.specs.{Charges.{ChargesStore, change_of}, Connection.{IsConnected}, Quiet.{charges_of}};
 
     /// Makes a change that isn't quiet, as it was charged: puts an object, or where none comes, and there are

@@ -3,7 +3,7 @@ ghost use Rattle.std.specs.Prelude.{◌≡◌, ◌⊎◌, ◌+◌, ◌^◌, ◌<
 ghost use Rattle.byte_ranges.specs.Ranges.{bytes_at};
 ghost use Rattle.disk_face.specs.Frames.{Unchanged};
 ghost use Rattle.slot_pair.specs.Finding.{HasDiskCause};
-ghost use Rattle.store_answers.specs.Reads.{IsJudged};
+ghost use Rattle.store_model.specs.Reads.{IsJudged};
 
 use crate::Refusal;
 use crate::faults::disk_failed;

@@ -10,7 +10,7 @@ use flush_run::settled_header;
 use held_guard::Guard;
 
 impl<const C: usize> Store<C> {
-    ghost use Rattle.store_answers.specs.{Answers.{done_reply, is_disk_fault, refused_by, reply_of}, Changes.{NothingChanged}, Keeps.{AnswersKeep, KeepsNow}};
+    ghost use Rattle.store_model.specs.{Answers.{done_reply, is_disk_fault, refused_by, reply_of}, Changes.{NothingChanged}, Keeps.{AnswersKeep, KeepsNow}};
     ghost use Rattle.store_model.specs.{Connection.{IsConnected, limits_of, state_of}, States.{Step}};
 
     /// Saves a checkpoint of what stands now, to which the store goes back from then on. After a fault

@@ -10,7 +10,7 @@ ghost use Rattle.table_rules.specs.Rules.{IsValid};
 ghost use Rattle.placement_model.specs.{Laid.{settled_table}, Reads.{AreNamed}};
 ghost use Rattle.extent_table.specs.{declared.spot.Spot.{Spot}, Extents.{IsTable, digests_seen, volume_of}};
 ghost use Rattle.store_model.specs.{Digested.{IsNarrowed}, Connection.{IsOver, StoreValue, SameOnTable, base_of, opened_store, state_of}, Opened.{IsFoundImage, IsOpened, SameOnFound, state_at}, Quiet.{charges_of}, Stores.{IsStore}, States.{Limits, State, Step, facts_of, refusal}};
-ghost use Rattle.store_answers.specs.{Above.{first_above, three_names}, Answers.{facts_at}, Facts.{widest_of}};
+ghost use Rattle.store_model.specs.{Above.{first_above, three_names}, Answers.{facts_at}, Facts.{widest_of}};
 
 use crate::Store;
 use crate::memory::{Memory, boxed, no_bytes, store_with, take_memory};

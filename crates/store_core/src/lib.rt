@@ -28,4 +28,4 @@ mod store;
 mod upgrade;
 
 pub use store::Store;
-pub use store_answers::{Begun, Done, Facts, Gauge, Moment, Progress, Refusal, Stat};
+pub use store_model::{Begun, Done, Facts, Gauge, Moment, Progress, Refusal, Stat};

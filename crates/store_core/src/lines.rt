@@ -5,7 +5,7 @@ ghost use Rattle.disk_face.specs.Streams.{Puts};
 ghost use Rattle.extent_table.specs.Extents.{IsTable};
 ghost use Rattle.slot_codec.specs.Names.{IsName};
 ghost use Rattle.store_model.specs.Lines.{IsMoved, line_of, lines_of, listing_of};
-ghost use Rattle.store_answers.specs.Answers.{fitted};
+ghost use Rattle.store_model.specs.Answers.{fitted};
 ghost use Rattle.data_area.specs.Causes.{HasSinkCause};
 
 use crate::Refusal;

@@ -4,7 +4,7 @@ ghost use Rattle.std.specs.FinMap as fin;
 ghost use Rattle.disk_face.specs.Streams.{Puts};
 ghost use Rattle.extent_table.specs.Extents.{volume_of};
 ghost use Rattle.map_model.specs.Requests as ask;
-ghost use Rattle.store_answers.specs.Answers.{AnswersList, listed_into, refused_by};
+ghost use Rattle.store_model.specs.Answers.{AnswersList, listed_into, refused_by};
 ghost use Rattle.store_model.specs.{Connection.{IsOver, limits_of, state_of}, Lines.{lines_of, listing_of}, States.{Step}};
 ghost use Rattle.data_area.specs.Causes.{HasSinkCause};
 

@@ -13,7 +13,7 @@ use segment_layout::Layout;
 use size_class::Row;
 use slot_codec::NoMemory;
 use std::alloc::Global;
-use store_answers::Began;
+use store_model::Began;
 
 /// How many bytes of an object are read at a time.
 const COPIED: usize = 65536;

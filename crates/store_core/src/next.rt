@@ -1,7 +1,7 @@
 //! The names of a store one after another.
 ghost use Rattle.std.specs.Prelude.{◌≡◌};
 ghost use Rattle.map_model.specs.Requests as ask;
-ghost use Rattle.store_answers.specs.{Above.{first_above, next_answer}, Answers.{refused_by}};
+ghost use Rattle.store_model.specs.{Above.{first_above, next_answer}, Answers.{refused_by}};
 ghost use Rattle.store_model.specs.Lines.{listing_of};
 
 use crate::{Refusal, Store};

@@ -4,11 +4,11 @@ ghost use Rattle.map_model.specs.Requests as ask;
 ghost use Rattle.store_model.specs.Charges.{ChargesStore, quiet_place};
 
 use crate::{Refusal, Store};
-use change_charges::{ChargeResult, charge_change};
 use extent_table::Spot;
 use segment_layout::Layout;
 use size_class::SIZE_MAX;
 use slot_codec::Name;
+use store_model::{ChargeResult, charge_change};
 
 /// From this sequence on nothing is put or removed, and no checkpoint is saved.
 const WORN_FROM: u64 = 1 << 61;
@@ -41,7 +41,7 @@ impl<const C: usize> Charged<C> {
 }
 
 impl<const C: usize> Store<C> {
-    ghost use Rattle.store_answers.specs.{Answers.{refused_by}, Plans.{AcceptsName}};
+    ghost use Rattle.store_model.specs.{Answers.{refused_by}, Plans.{AcceptsName}};
     ghost use Rattle.store_model.specs.{Quiet.{del_of, put_of}, Stores.{IsStore}};
 
     /// Charges a change on a copy of the layout: the object that a name has, and a new one of `size` bytes,

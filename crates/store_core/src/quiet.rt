@@ -8,7 +8,7 @@ ghost use Rattle.segment_layout.specs.{Books.{digests_after, some_size}, Layouts
 ghost use Rattle.map_model.specs.Requests as ask;
 ghost use Rattle.placement_model.specs.Quiet.{QuietTo, gone_items};
 ghost use Rattle.store_model.specs.{Digested.{digested_book, digests_with}, Quiet.{IsCharged, added, del_of, put_of, sizes_at, writes_of}};
-ghost use Rattle.store_answers.specs.Plans.{IsDelPlan, IsPutPlan};
+ghost use Rattle.store_model.specs.Plans.{IsDelPlan, IsPutPlan};
 
 use crate::held::{add_gone, add_size, free_spot};
 use crate::plan::PutPlan;
@@ -21,7 +21,7 @@ use size_class::SIZE_MAX;
 use slot_codec::Name;
 
 impl<const C: usize> Store<C> {
-    ghost use Rattle.store_answers.specs.{Answers.{AnswersChange, done_reply, is_disk_fault, reply_of}, Changes.{ChangesQuietly, IsQuietChange, NothingChanged}};
+    ghost use Rattle.store_model.specs.{Answers.{AnswersChange, done_reply, is_disk_fault, reply_of}, Changes.{ChangesQuietly, IsQuietChange, NothingChanged}};
     ghost use Rattle.store_model.specs.{Connection.{IsConnected, IsOver, limits_of, live_cap, state_of}, States.{Step}, Stores.{IsStore}};
 
     /// Goes back to the last checkpoint: what stood then stands now.

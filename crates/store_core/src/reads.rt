@@ -7,7 +7,7 @@ ghost use Rattle.extent_table.specs.Extents.{IsInRange};
 ghost use Rattle.placement_model.specs.Reads.{object_at};
 ghost use Rattle.slot_codec.specs.Names.{is_name};
 ghost use Rattle.map_model.specs.Requests as ask;
-ghost use Rattle.store_answers.specs.{Answers.{AnswersName, AnswersNumber, AnswersRead, AnswersSpot, refused_by, size_at}, Readings.{IsRead, asks_for, digest_read, position_of, spot_read}, Reads.{GivesObject, PutsJudged}};
+ghost use Rattle.store_model.specs.{Answers.{AnswersName, AnswersNumber, AnswersRead, AnswersSpot, refused_by, size_at}, Readings.{IsRead, asks_for, digest_read, position_of, spot_read}, Reads.{GivesObject, PutsJudged}};
 ghost use Rattle.store_model.specs.{Connection.{IsConnected, base_of}, Halves.{IsReadable}, Stores.{IsStanding, IsStore}};
 ghost use Rattle.data_area.specs.Causes.{HasSinkCause};
 

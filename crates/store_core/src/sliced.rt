@@ -11,11 +11,11 @@ use disk_face::{Disk, DiskFault};
 use extent_table::Spot;
 use flush_run::{Halted, Phase, Stepped, step};
 use slot_codec::Name;
-use store_answers::Began;
+use store_model::Began;
 
 impl<const C: usize> Store<C> {
     ghost use Rattle.segment_layout.specs.Books.{is_quiet};
-    ghost use Rattle.store_answers.specs.{Answers.{is_disk_fault, refused_by}, Begins.{BeginsChange, BeginsServed, begun_reply}, Steps.{IsStep}};
+    ghost use Rattle.store_model.specs.{Answers.{is_disk_fault, refused_by}, Begins.{BeginsChange, BeginsServed, begun_reply}, Steps.{IsStep}};
     ghost use Rattle.store_model.specs.{Connection.{FlushInHand, IsConnected, limits_of, state_of}, Halves.{HalfAgrees, IsHalfway, Origin}, Charges.{ChargesStore, change_of}, Quiet.{charges_of, del_of, put_of}, States.{Step}};
 
     /// Begins to put an object under a name, as `put` does: a quiet change is done, and of any other the

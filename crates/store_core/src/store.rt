@@ -9,7 +9,7 @@ use flush_run::{Hands, Phase};
 use segment_layout::Layout;
 use slot_codec::cap;
 use std::marker::Model;
-use store_answers::Began;
+use store_model::Began;
 
 /// A store over its disk: where the objects stand now, and where they stood at the last checkpoint.
 /// Contracts see it as `StoreValue`.

@@ -13,7 +13,7 @@ use slot_codec::cap;
 const DIGESTED: u8 = 2;
 
 impl<const C: usize> Store<C> {
-    ghost use Rattle.store_answers.specs.{Answers.{is_disk_fault}, Changes.{NothingChanged}, Upgrades.{AnswersUpgrade, Upgrades, idle_answer}};
+    ghost use Rattle.store_model.specs.{Answers.{is_disk_fault}, Changes.{NothingChanged}, Upgrades.{AnswersUpgrade, Upgrades, idle_answer}};
     ghost use Rattle.store_model.specs.Connection.{IsConnected};
     ghost use Rattle.segment_layout.specs.Books.{version_of};
     ghost use Rattle.slot_codec.specs.Spelling.{cap as cap_of};

@@ -17,7 +17,7 @@ use Rattle.segment_layout.proofs.BookLaws.{volumes_of_sizes-index}
 use Rattle.extent_table.specs.declared.spot.Spot.{Spot}
 use Rattle.cost_laws.specs.Paid.{AsksNext}
 use Rattle.flush_run.specs.Calls.{IsOpenRow}
-use Rattle.change_charges.specs.Sized.{IsSizedBy}
+use Rattle.store_model.specs.Sized.{IsSizedBy}
 use Rattle.store_model.specs.Connection.{StoreValue}
 use Rattle.store_model.specs.Quiet.{added, asked_after, sizes_at}
 

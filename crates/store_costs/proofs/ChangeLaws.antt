@@ -15,17 +15,17 @@ use Rattle.segment_layout.proofs.SumLaws.{sum_below_zero}
 use Rattle.move_cost.specs.Costs.{IsCost, potential, rate, weigh}
 use Rattle.cost_laws.specs.Moves.{next_grid, rise}
 use Rattle.cost_laws.proofs.MoveLaws.{rise-index}
-use Rattle.store_answers.specs.declared.answers.Refusal.{Refusal}
-use Rattle.store_answers.specs.declared.answers.Done.{Done}
-use Rattle.store_answers.specs.Answers.{AnswersChange, facts_at, is_disk_fault, refusal_for, refused_by}
-use Rattle.store_answers.specs.Changes.{ChangesQuietly}
-use Rattle.store_answers.specs.Changing.{IsChange}
+use Rattle.store_model.specs.declared.answers.Refusal.{Refusal}
+use Rattle.store_model.specs.declared.answers.Done.{Done}
+use Rattle.store_model.specs.Answers.{AnswersChange, facts_at, is_disk_fault, refusal_for, refused_by}
+use Rattle.store_model.specs.Changes.{ChangesQuietly}
+use Rattle.store_model.specs.Changing.{IsChange}
 use Rattle.store_model.specs.Connection.{StoreValue, limits_of}
-use Rattle.store_answers.specs.Flushes.{ChangesByFlush, IsFlush}
+use Rattle.store_model.specs.Flushes.{ChangesByFlush, IsFlush}
 use Rattle.store_model.specs.Quiet.{charges_of}
 use Rattle.store_model.specs.States.{refusal}
 use Rattle.store_model.specs.Stores.{IsStore}
-use Rattle.store_answers.proofs.ReadingLaws.{whole_if_served}
+use Rattle.store_model.proofs.ReadingLaws.{whole_if_served}
 use Rattle.store_costs.specs.Calls.{IsSound}
 use Rattle.store_costs.specs.Paid.{HasOpenLedger, HasPaid, MovesNothing, StepIsPaidFor}
 use Rattle.store_costs.proofs.MadeLaws.{IsNext, flush_divisor, flush_grid, flush_next, next_has_paid, next_pays, quiet_divisor, quiet_grid, quiet_next}

@@ -19,11 +19,11 @@ use Rattle.cost_laws.specs.Paid.{ArePaid, AsksNext, IsPaid, IsWeighed}
 use Rattle.cost_laws.proofs.PaidLaws.{cheap_call, paid_next}
 use Rattle.cost_laws.proofs.PotentialPays.{grid_of_quiet, next_boundary_is, next_quiet_is}
 use Rattle.flush_run.specs.Calls.{IsOpenRow}
-use Rattle.store_answers.specs.declared.answers.Refusal.{Refusal}
-use Rattle.store_answers.specs.declared.answers.Done.{Done}
-use Rattle.store_answers.specs.Changes.{ChangesQuietly}
+use Rattle.store_model.specs.declared.answers.Refusal.{Refusal}
+use Rattle.store_model.specs.declared.answers.Done.{Done}
+use Rattle.store_model.specs.Changes.{ChangesQuietly}
 use Rattle.store_model.specs.Connection.{StoreValue}
-use Rattle.store_answers.specs.Flushes.{ChangesByFlush, IsFlush}
+use Rattle.store_model.specs.Flushes.{ChangesByFlush, IsFlush}
 use Rattle.store_model.specs.Quiet.{asked_after, charges_of, sizes_at}
 use Rattle.store_model.specs.Stores.{IsStore}
 use Rattle.store_costs.specs.Paid.{HasOpenLedger, HasPaid, StepIsPaidFor}

@@ -7,12 +7,12 @@ use Rattle.map_model.specs.Requests.{Change}
 use Rattle.move_cost.specs.Costs.{potential}
 use Rattle.cost_laws.proofs.CellLaws.{potential_rises}
 use Rattle.cost_laws.proofs.PaidLaws.{paid_back}
-use Rattle.store_answers.specs.declared.answers.Refusal.{Refusal}
-use Rattle.store_answers.specs.declared.answers.Done.{Done}
-use Rattle.store_answers.specs.Answers.{refused_by}
-use Rattle.store_answers.specs.Changing.{IsChange}
+use Rattle.store_model.specs.declared.answers.Refusal.{Refusal}
+use Rattle.store_model.specs.declared.answers.Done.{Done}
+use Rattle.store_model.specs.Answers.{refused_by}
+use Rattle.store_model.specs.Changing.{IsChange}
 use Rattle.store_model.specs.Connection.{StoreValue}
-use Rattle.store_answers.specs.Keeps.{IsKeep, kept_now}
+use Rattle.store_model.specs.Keeps.{IsKeep, kept_now}
 use Rattle.store_model.specs.Stores.{IsStore}
 use Rattle.store_costs.specs.Calls.{gone_back}
 use Rattle.store_costs.specs.Paid.{HasPaid, MovesNothing, StepIsPaidFor}

@@ -14,11 +14,11 @@ use Rattle.placement_model.proofs.NextQuietLaws.{old_item-is}
 use Rattle.move_cost.specs.Costs.{IsCost}
 use Rattle.cost_laws.specs.Cells.{NoCellFalls}
 use Rattle.cost_laws.specs.Paid.{IsWeighed}
-use Rattle.change_charges.specs.Sized.{IsSizedBy}
-use Rattle.change_charges.proofs.EndLaws.{blank, in_blank, shown_balanced}
-use Rattle.change_charges.proofs.SizedLaws.{sized_read}
+use Rattle.store_model.specs.Sized.{IsSizedBy}
+use Rattle.store_model.proofs.LaidEndLaws.{blank, in_blank, shown_balanced}
+use Rattle.store_model.proofs.SizedLaws.{sized_read}
 use Rattle.store_model.specs.Connection.{IsOver, StoreValue, base_of, kept_map}
-use Rattle.store_answers.specs.Keeps.{now_map}
+use Rattle.store_model.specs.Keeps.{now_map}
 use Rattle.store_model.specs.Quiet.{charges_of}
 use Rattle.store_model.specs.Stores.{IsStore}
 use Rattle.store_model.proofs.DigestLaws.{balanced_with}

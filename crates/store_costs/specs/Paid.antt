@@ -6,7 +6,7 @@ use Rattle.cost_laws.specs.Paid.{ArePaid, IsPaid}
 use Rattle.cost_laws.specs.Sessions.{Account}
 use Rattle.flush_run.specs.Calls.{IsOpenRow}
 use Rattle.store_model.specs.Connection.{StoreValue, kept_map}
-use Rattle.store_answers.specs.Keeps.{now_map}
+use Rattle.store_model.specs.Keeps.{now_map}
 
 -- no number of a store's ledger stands at its last value
 pub record HasOpenLedger (s : StoreValue) : Type 0 where

@@ -5,10 +5,10 @@ ghost use Rattle.map_model.specs.Requests.{Change};
 ghost use Rattle.slot_pair.specs.Formats.{HasFirstTable};
 ghost use Rattle.move_cost.specs.Costs.{IsCost, factor, potential, weigh};
 ghost use Rattle.cost_laws.specs.{Cells.{NoCellFalls}, Paid.{IsWeighed}, Sessions.{IsPaidFor}};
-ghost use Rattle.store_answers.specs.{declared.answers.Refusal.{Refusal}, declared.answers.Done.{Done}, Answers.{refused_by}, Changing.{IsChange}, Keeps.{now_map}};
+ghost use Rattle.store_model.specs.{declared.answers.Refusal.{Refusal}, declared.answers.Done.{Done}, Answers.{refused_by}, Changing.{IsChange}, Keeps.{now_map}};
 ghost use Rattle.store_model.specs.{Connection.{IsOver, StoreValue, kept_map}, Opened.{IsFresh, IsOpened}, Stores.{IsStore}};
 ghost use Rattle.store_costs.specs.{Calls.{IsCall, IsCounted, Session, gone_back}, Paid.{HasPaid, MovesNothing, StepIsPaidFor, account_of}};
-ghost use Rattle.store_answers.specs.Keeps.{IsKeep};
+ghost use Rattle.store_model.specs.Keeps.{IsKeep};
 
 use disk_face::Disk;
 

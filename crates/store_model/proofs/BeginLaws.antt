@@ -15,12 +15,12 @@ use Rattle.flush_model.specs.Phases.{CanFlush}
 use Rattle.flush_model.specs.Plans.{numbers_of}
 use Rattle.flush_run.specs.Hands.{suffix_items}
 use Rattle.flush_run.specs.Shelved.{items_now, phase_now, shelf_of}
-use Rattle.change_charges.specs.Items.{item_at}
-use Rattle.change_charges.specs.Starts.{IsWith}
-use Rattle.change_charges.proofs.CanFlushLaws.{begins_pending, can_flush}
-use Rattle.change_charges.proofs.ReachLaws.{reach_low, reach_past_wall}
-use Rattle.change_charges.proofs.SuffixLaws.{items_with}
-use Rattle.change_charges.proofs.ShelfLaws.{start_shelf}
+use Rattle.store_model.specs.Items.{item_at}
+use Rattle.store_model.specs.Starts.{IsWith}
+use Rattle.store_model.proofs.CanFlushLaws.{begins_pending, can_flush}
+use Rattle.store_model.proofs.ReachLaws.{reach_low, reach_past_wall}
+use Rattle.store_model.proofs.SuffixLaws.{items_with}
+use Rattle.store_model.proofs.ShelfLaws.{start_shelf}
 use Rattle.flush_plan.specs.Shelves.{PlanFrame, IsOnShelf, course_of}
 use Rattle.store_model.specs.Flushing.{CanStartAt, IsStarted}
 

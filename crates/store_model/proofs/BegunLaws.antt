@@ -21,9 +21,9 @@ use Rattle.flush_run.specs.Shelved.{phase_now}
 use Rattle.flush_plan.specs.Shelves.{course_of}
 use Rattle.flush_run.specs.Parts.{HandsValue, saved_digests}
 use Rattle.placement_model.specs.Tried.{between, new_charged}
-use Rattle.change_charges.specs.Charging.{PlacesNew}
-use Rattle.change_charges.specs.Starts.{IsLoud, IsWith, IsWithout}
-use Rattle.change_charges.proofs.EndLaws.{end_small, most_end}
+use Rattle.store_model.specs.Charging.{PlacesNew}
+use Rattle.store_model.specs.Starts.{IsLoud, IsWith, IsWithout}
+use Rattle.store_model.proofs.LaidEndLaws.{end_small, most_end}
 use Rattle.store_model.specs.Digested.{IsDigestFor}
 use Rattle.store_model.specs.Flushing.{CanStartAt, IsBegun, NeedsFlushAt, IsStarted, MayBegin, StartsPlaced, StartsWaiting, TakesOut}
 use Rattle.store_model.specs.Quiet.{added, del_of, put_of, sizes_at}

@@ -17,9 +17,9 @@ use Rattle.held_guard.specs.Freed.{Freed}
 use Rattle.flush_model.specs.Phases.{PlanState}
 use Rattle.flush_run.specs.Parts.{HandsValue}
 use Rattle.placement_model.specs.Tried.{between, charged_by}
-use Rattle.change_charges.specs.Charging.{PlacesNew}
-use Rattle.change_charges.specs.Starts.{CanStart, IsLoud, flush_start}
-use Rattle.change_charges.proofs.StartLaws.{outcome_loud}
+use Rattle.store_model.specs.Charging.{PlacesNew}
+use Rattle.store_model.specs.Starts.{CanStart, IsLoud, flush_start}
+use Rattle.store_model.proofs.StartLaws.{outcome_loud}
 use Rattle.store_model.specs.Flushing.{CanStartAt, NeedsFlushAt, IsStarted, MayBegin}
 use Rattle.store_model.specs.Quiet.{CanFree}
 

@@ -5,7 +5,7 @@ use Rattle.size_class.specs.declared.TheConstants.{SIZE_MAX}
 use Rattle.slot_codec.proofs.CapLaws.{cap-low}
 use Rattle.segment_layout.specs.Books.{version_of}
 use Rattle.segment_layout.specs.Shapes.{end_of}
-use Rattle.change_charges.proofs.EndLaws.{end_small}
+use Rattle.store_model.proofs.LaidEndLaws.{end_small}
 use Rattle.store_model.specs.Connection.{StoreValue}
 use Rattle.store_model.specs.Stores.{IsStore}
 

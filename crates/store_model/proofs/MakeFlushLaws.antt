@@ -34,8 +34,8 @@ use Rattle.flush_run.proofs.CallLaws.{calls_none, calls_then, calls_wider}
 use Rattle.flush_run.proofs.FlightLaws.{checkpoint_sequence, content_written, left_written, opens_written}
 use Rattle.flush_run.proofs.LeftLaws.{left_then}
 use Rattle.flush_run.proofs.MoveLaws.{content_grown, left_grown, moved_within, opens_grown}
-use Rattle.change_charges.specs.Lifting.{BeginsLift}
-use Rattle.change_charges.specs.Sized.{object_size}
+use Rattle.store_model.specs.Lifting.{BeginsLift}
+use Rattle.store_model.specs.Sized.{object_size}
 use Rattle.store_model.specs.Flushing.{CanMakeFlush, HasMadeFlush, IsAtStart, BeforeChange, book_before, bytes_of, flight_of, spots_after, lift_start}
 use Rattle.store_model.proofs.DigestLaws.{next_digests}
 

@@ -45,9 +45,9 @@ use Rattle.flush_run.specs.FlushFrames.{FlushFrame}
 use Rattle.flush_run.specs.Hands.{HandsMatchPlan, suffix_items}
 use Rattle.flush_run.specs.Shelved.{shelf_of}
 use Rattle.flush_run.proofs.OverLaws.{shelf_holds}
-use Rattle.change_charges.proofs.AgainLaws.{items_can}
-use Rattle.change_charges.proofs.ObjectLaws.{are_objects}
-use Rattle.change_charges.proofs.SuffixLaws.{has_item}
+use Rattle.store_model.proofs.AgainLaws.{items_can}
+use Rattle.store_model.proofs.ObjectLaws.{are_objects}
+use Rattle.store_model.proofs.SuffixLaws.{has_item}
 use Rattle.reopen.specs.declared.state.Loaded.{Loaded}
 use Rattle.reopen.specs.Loads.{KeepsLoaded}
 use Rattle.flush_plan.specs.Packs.{CanGoOn}

@@ -27,12 +27,12 @@ use Rattle.flush_run.specs.Shelved.{phase_now}
 use Rattle.flush_plan.specs.Shelves.{course_of}
 use Rattle.flush_run.specs.Parts.{HandsValue, saved_digests}
 use Rattle.placement_model.specs.Tried.{between, charged_by, new_charged}
-use Rattle.change_charges.specs.Lifting.{BeginsLift}
-use Rattle.change_charges.specs.Starts.{CanStart, IsLoud, IsWith, IsWithout, WasBefore, flush_start}
-use Rattle.change_charges.proofs.LiftStartLaws.{pending_high, pending_is_free, pending_lifts, pending_some, pending_starts, placed_free, placed_in_reach, placed_lifts, placed_starts, removed_lifts, removed_starts}
-use Rattle.change_charges.proofs.LooseLaws.{pending_loose, placed_loose, removed_loose}
-use Rattle.change_charges.proofs.ReachLaws.{reach_low, reach_past_wall, wall_past_end}
-use Rattle.change_charges.proofs.StartLaws.{placed_within}
+use Rattle.store_model.specs.Lifting.{BeginsLift}
+use Rattle.store_model.specs.Starts.{CanStart, IsLoud, IsWith, IsWithout, WasBefore, flush_start}
+use Rattle.store_model.proofs.LiftStartLaws.{pending_high, pending_is_free, pending_lifts, pending_some, pending_starts, placed_free, placed_in_reach, placed_lifts, placed_starts, removed_lifts, removed_starts}
+use Rattle.store_model.proofs.LooseLaws.{pending_loose, placed_loose, removed_loose}
+use Rattle.store_model.proofs.ReachLaws.{reach_low, reach_past_wall, wall_past_end}
+use Rattle.store_model.proofs.StartLaws.{placed_within}
 use Rattle.store_model.specs.Digested.{IsDigestFor}
 use Rattle.store_model.specs.Flushing.{IsBegun, IsStarted, MayBegin, BeforeChange, book_before, flight_of, shown_before}
 use Rattle.store_model.specs.Quiet.{added, del_of, put_of, sizes_at}

@@ -7,8 +7,8 @@ use Rattle.slot_codec.specs.Names.{IsName}
 use Rattle.map_model.specs.Requests.{Change}
 use Rattle.segment_layout.specs.declared.layout.Layout.{Layout}
 use Rattle.flush_run.specs.Parts.{HandsValue}
-use Rattle.change_charges.specs.Charging.{IsChargedBy}
-use Rattle.change_charges.specs.declared.charge.ChargeResult.{ChargeResult}
+use Rattle.store_model.specs.Charging.{IsChargedBy}
+use Rattle.store_model.specs.declared.charge.ChargeResult.{ChargeResult}
 use Rattle.store_model.specs.Connection.{StoreValue}
 
 -- the charges of a name's object and a new one: of a store, and of the parts of a flush

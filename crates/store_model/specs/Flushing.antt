@@ -28,9 +28,9 @@ use Rattle.flush_run.specs.Parts.{KeepsSettling, HandsValue, SameSizes, saved_di
 use Rattle.flush_run.specs.Shelved.{phase_now}
 use Rattle.flush_plan.specs.Shelves.{course_of}
 use Rattle.placement_model.specs.Tried.{charged_by}
-use Rattle.change_charges.specs.Lifting.{BeginsLift}
-use Rattle.change_charges.specs.Sized.{IsSizedBy, object_size}
-use Rattle.change_charges.specs.Starts.{CanStart, IsWith, IsWithout, WasBefore, flush_start}
+use Rattle.store_model.specs.Lifting.{BeginsLift}
+use Rattle.store_model.specs.Sized.{IsSizedBy, object_size}
+use Rattle.store_model.specs.Starts.{CanStart, IsWith, IsWithout, WasBefore, flush_start}
 use Rattle.store_model.specs.Quiet.{added, sizes_at}
 
 -- ---- before the change

@@ -1,3 +1,8 @@
+pub mod Charging
+pub mod Items
+pub mod Starts
+pub mod Sized
+pub mod Lifting
 pub mod States
 pub mod Digested
 pub mod Connection
@@ -11,3 +16,17 @@ pub mod Flushing
 pub mod Charges
 pub mod Opened
 pub mod Resuming
+pub mod Inside
+pub mod Above
+pub mod Answers
+pub mod Plans
+pub mod Changes
+pub mod Keeps
+pub mod Reads
+pub mod Readings
+pub mod Flushes
+pub mod Changing
+pub mod Upgrades
+pub mod Begins
+pub mod Steps
+pub mod Facts

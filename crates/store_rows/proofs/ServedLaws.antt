@@ -5,13 +5,13 @@ use Rattle.disk_face.specs.States as disk
 use Rattle.disk_face.specs.Frames.{Stays}
 use Rattle.map_model.specs.Requests.{Change}
 use Rattle.size_class.specs.declared.TheConstants.{CLASSES}
-use Rattle.store_answers.specs.declared.answers.Refusal.{Refusal}
-use Rattle.store_answers.specs.declared.answers.Done.{Done}
-use Rattle.store_answers.specs.Changes.{IsQuietChange, NothingChanged}
-use Rattle.store_answers.specs.Changing.{IsChange}
+use Rattle.store_model.specs.declared.answers.Refusal.{Refusal}
+use Rattle.store_model.specs.declared.answers.Done.{Done}
+use Rattle.store_model.specs.Changes.{IsQuietChange, NothingChanged}
+use Rattle.store_model.specs.Changing.{IsChange}
 use Rattle.store_model.specs.Connection.{IsConnected, IsOver, StoreValue}
-use Rattle.store_answers.specs.Flushes.{IsFlush}
-use Rattle.store_answers.specs.Keeps.{KeepsNow}
+use Rattle.store_model.specs.Flushes.{IsFlush}
+use Rattle.store_model.specs.Keeps.{KeepsNow}
 use Rattle.store_rows.specs.Served.{MayServe}
 
 served_on : (old new : StoreValue) (before now : disk.State) → MayServe old before → Stays before now

@@ -6,17 +6,17 @@ use Rattle.disk_face.specs.Frames.{Stays, Unchanged}
 use Rattle.disk_face.specs.Writes.{KeepsDisk}
 use Rattle.map_model.specs.Requests.{Change}
 use Rattle.size_class.specs.declared.TheConstants.{CLASSES}
-use Rattle.store_answers.specs.declared.answers.Begun.{Begun}
-use Rattle.store_answers.specs.declared.answers.Begun.TheVariants as begun
-use Rattle.store_answers.specs.declared.answers.Done.{Done}
-use Rattle.store_answers.specs.declared.answers.Progress.{Progress}
-use Rattle.store_answers.specs.declared.answers.Progress.TheVariants as progress
-use Rattle.store_answers.specs.declared.answers.Refusal.{Refusal}
-use Rattle.store_answers.specs.Begins.{AfterBegin, BeginsChange, BeginsFlush}
-use Rattle.store_answers.specs.Changes.{IsQuietChange, NothingChanged}
-use Rattle.store_answers.specs.Changing.{IsChange}
-use Rattle.store_answers.specs.Flushes.{IsFlush}
-use Rattle.store_answers.specs.Steps.{AfterStep}
+use Rattle.store_model.specs.declared.answers.Begun.{Begun}
+use Rattle.store_model.specs.declared.answers.Begun.TheVariants as begun
+use Rattle.store_model.specs.declared.answers.Done.{Done}
+use Rattle.store_model.specs.declared.answers.Progress.{Progress}
+use Rattle.store_model.specs.declared.answers.Progress.TheVariants as progress
+use Rattle.store_model.specs.declared.answers.Refusal.{Refusal}
+use Rattle.store_model.specs.Begins.{AfterBegin, BeginsChange, BeginsFlush}
+use Rattle.store_model.specs.Changes.{IsQuietChange, NothingChanged}
+use Rattle.store_model.specs.Changing.{IsChange}
+use Rattle.store_model.specs.Flushes.{IsFlush}
+use Rattle.store_model.specs.Steps.{AfterStep}
 use Rattle.store_model.specs.Connection.{IsOver, StoreValue}
 use Rattle.store_model.specs.Halves.{IsHalfway, IsReadable}
 use Rattle.store_model.proofs.HalfLaws.{halfway_read}

@@ -22,10 +22,10 @@ use Rattle.store_model.specs.Connection.{IsOver, StoreValue, kept_map, state_of}
 use Rattle.store_model.specs.Opened.{LeavesRoom, RestsOnFound, found_base, most_found}
 use Rattle.store_model.specs.States as store
 use Rattle.store_model.proofs.OpeningLaws.{FoundSame, found_one}
-use Rattle.store_answers.specs.Keeps.{OpensToKeptOrNow, kept_now}
-use Rattle.store_answers.specs.Upgrades.{Upgrades, digests_now, upgraded as upgraded_store}
-use Rattle.store_answers.specs.declared.answers.Done.{Done}
-use Rattle.store_answers.specs.declared.answers.Refusal.{Refusal}
+use Rattle.store_model.specs.Keeps.{OpensToKeptOrNow, kept_now}
+use Rattle.store_model.specs.Upgrades.{Upgrades, digests_now, upgraded as upgraded_store}
+use Rattle.store_model.specs.declared.answers.Done.{Done}
+use Rattle.store_model.specs.declared.answers.Refusal.{Refusal}
 use Rattle.command_face.specs.Outcomes.{Ends, PutsLast, line_at, status_at}
 use Rattle.command_face.specs.declared.stop.StopReason.{StopReason}
 use Rattle.command_face.specs.Layers.{Answers}

@@ -11,12 +11,12 @@ use Rattle.segment_layout.specs.Books.{version_of}
 use Rattle.store_model.specs.Connection.{IsConnected, StoreValue, base_of, state_of}
 use Rattle.store_model.specs.States.{State, refused_from}
 use Rattle.store_model.specs.Stores.{IsStore}
-use Rattle.store_answers.specs.Answers.{is_disk_fault}
-use Rattle.store_answers.specs.Changes.{NothingChanged}
-use Rattle.store_answers.specs.Upgrades.{AnswersUpgrade, Upgrades, idle_answer}
-use Rattle.store_answers.specs.declared.answers.Done.{Done}
-use Rattle.store_answers.specs.declared.answers.Refusal.{Refusal}
-use Rattle.store_answers.specs.declared.answers.Refusal.TheVariants as why
+use Rattle.store_model.specs.Answers.{is_disk_fault}
+use Rattle.store_model.specs.Changes.{NothingChanged}
+use Rattle.store_model.specs.Upgrades.{AnswersUpgrade, Upgrades, idle_answer}
+use Rattle.store_model.specs.declared.answers.Done.{Done}
+use Rattle.store_model.specs.declared.answers.Refusal.{Refusal}
+use Rattle.store_model.specs.declared.answers.Refusal.TheVariants as why
 use Rattle.command_face.specs.declared.stop.StopReason.{StopReason}
 use Rattle.command_face.specs.declared.stop.StopReason.TheVariants as stop
 use Rattle.upgrade_command.specs.Doing.{EndsBy, IsUpgrade, PutsUpgraded}

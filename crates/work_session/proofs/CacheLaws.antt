@@ -9,15 +9,15 @@ use Rattle.map_model.specs.Requests.{Change, Refused, Reply, Request}
 use Rattle.store_model.specs.Connection.{IsConnected, StoreValue, limits_of, state_of}
 use Rattle.store_model.specs.States.{Limits, State, Step, object_in, served}
 use Rattle.store_model.specs.Stores.{IsStore}
-use Rattle.store_answers.specs.declared.answers.Done.{Done}
-use Rattle.store_answers.specs.declared.answers.Refusal.{Refusal}
-use Rattle.store_answers.specs.declared.answers.Refusal.TheVariants as why
-use Rattle.store_answers.specs.Answers as store
-use Rattle.store_answers.specs.Answers.{done_reply, refused_reply, reply_of}
-use Rattle.store_answers.specs.Changing.{IsChange}
-use Rattle.store_answers.specs.Readings.{IsRead}
-use Rattle.store_answers.proofs.StepLaws.{always}
-use Rattle.store_answers.specs.Keeps.{IsKeep}
+use Rattle.store_model.specs.declared.answers.Done.{Done}
+use Rattle.store_model.specs.declared.answers.Refusal.{Refusal}
+use Rattle.store_model.specs.declared.answers.Refusal.TheVariants as why
+use Rattle.store_model.specs.Answers as store
+use Rattle.store_model.specs.Answers.{done_reply, refused_reply, reply_of}
+use Rattle.store_model.specs.Changing.{IsChange}
+use Rattle.store_model.specs.Readings.{IsRead}
+use Rattle.store_model.proofs.StepLaws.{always}
+use Rattle.store_model.specs.Keeps.{IsKeep}
 use Rattle.read_cache.specs.CacheValues.{CacheValue}
 use Rattle.read_cache.specs.Coherence.{IsCoherent}
 use Rattle.read_cache.specs.Gets.{HasListed, ListsGet, is_sink, size_got}
@@ -26,9 +26,9 @@ use Rattle.read_cache.specs.Lists.{Listing, after, after_hit, listed, without}
 use Rattle.ask_text.specs.declared.reply.Reply as text
 use Rattle.ask_text.specs.declared.reply.Reply.TheVariants as head
 use Rattle.ask_text.specs.declared.ends.End.{End}
-use Rattle.ask_serve.specs.Ready.{CanServe}
-use Rattle.ask_serve.specs.ReplyLines.{answer_change, answer_of}
-use Rattle.ask_serve.specs.Serving.{reply_at}
+use Rattle.ask_session.specs.Ready.{CanServe}
+use Rattle.ask_session.specs.ReplyLines.{answer_change, answer_of}
+use Rattle.ask_session.specs.Serving.{reply_at}
 use Rattle.work_session.specs.Jobs.{Does}
 use Rattle.work_session.specs.Servers.{BecomesCached, IsSaid, ServesJob, words_of}
 use Rattle.work_session.proofs.DoesLaws.{change_does, get_gives, get_stops, keep_does}

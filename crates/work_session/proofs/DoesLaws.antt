@@ -11,23 +11,23 @@ use Rattle.slot_pair.specs.Saves.{save_calls}
 use Rattle.map_model.specs.Requests as ask
 use Rattle.map_model.specs.Requests.{Change, Refused, Reply, Request}
 use Rattle.extent_table.specs.declared.spot.Spot.{Spot}
-use Rattle.store_answers.specs.declared.answers.Refusal.{Refusal}
-use Rattle.store_answers.specs.declared.answers.Refusal.TheVariants as why
-use Rattle.store_answers.specs.declared.answers.Done.{Done}
-use Rattle.store_answers.specs.Answers.{AnswersChange, AnswersNumber, AnswersRead, done_reply, refusal_for, refused_by, refused_reply, reply_of, size_at}
-use Rattle.store_answers.specs.Answers as store
-use Rattle.store_answers.specs.Readings.{is_damaged_read}
-use Rattle.store_answers.specs.declared.answers.Moment.TheVariants as moment
-use Rattle.store_answers.specs.Changes.{NothingChanged}
-use Rattle.store_answers.specs.Changing.{IsChange}
+use Rattle.store_model.specs.declared.answers.Refusal.{Refusal}
+use Rattle.store_model.specs.declared.answers.Refusal.TheVariants as why
+use Rattle.store_model.specs.declared.answers.Done.{Done}
+use Rattle.store_model.specs.Answers.{AnswersChange, AnswersNumber, AnswersRead, done_reply, refusal_for, refused_by, refused_reply, reply_of, size_at}
+use Rattle.store_model.specs.Answers as store
+use Rattle.store_model.specs.Readings.{is_damaged_read}
+use Rattle.store_model.specs.declared.answers.Moment.TheVariants as moment
+use Rattle.store_model.specs.Changes.{NothingChanged}
+use Rattle.store_model.specs.Changing.{IsChange}
 use Rattle.store_model.specs.Connection.{IsConnected, StoreValue, base_of, limits_of, state_of}
-use Rattle.store_answers.specs.Keeps.{AnswersKeep, IsKeep, kept_now}
+use Rattle.store_model.specs.Keeps.{AnswersKeep, IsKeep, kept_now}
 use Rattle.store_model.specs.Quiet.{charges_of}
 use Rattle.store_model.specs.States.{Served, State, Step, object_in, unchanged}
 use Rattle.store_model.specs.Stores.{IsStore}
-use Rattle.store_answers.proofs.AnsweredLaws.{number_served}
+use Rattle.store_model.proofs.AnsweredLaws.{number_served}
 use Rattle.data_area.proofs.CauseLaws.{calm_disk, disk_cause_as}
-use Rattle.store_answers.proofs.StepLaws.{always, read_reply}
+use Rattle.store_model.proofs.StepLaws.{always, read_reply}
 use Rattle.store_model.proofs.StoreLaws.{small_if_there}
 use Rattle.segment_layout.specs.Books.{is_quiet}
 use Rattle.store_costs.proofs.ChangeLaws.{at_ok, same_moves_nothing}
@@ -38,15 +38,15 @@ use Rattle.ask_text.specs.declared.reply.Reply.TheVariants as head
 use Rattle.ask_text.specs.declared.reply.RefusedWord.TheVariants as word
 use Rattle.ask_text.specs.declared.ends.End.{End}
 use Rattle.ask_text.specs.declared.ends.End.TheVariants as ends
-use Rattle.ask_serve.specs.ReplyLines.{Answers, answer_change, answer_of}
-use Rattle.ask_serve.specs.Serving.{Serves, reply_at, served_at}
-use Rattle.ask_serve.proofs.AnswerLaws.{change_answers, keep_answers, refused_head}
-use Rattle.ask_serve.proofs.ReadReplyLaws.{answer_is, can_read, found_damaged, found_fine, get_long, get_served, refused_with}
-use Rattle.ask_serve.specs.Ready.{CanServe}
-use Rattle.ask_serve.proofs.ServingLaws.{refused_stays, serves_same}
+use Rattle.ask_session.specs.ReplyLines.{Answers, answer_change, answer_of}
+use Rattle.ask_session.specs.Serving.{Serves, reply_at, served_at}
+use Rattle.ask_session.proofs.AnswerLaws.{change_answers, keep_answers, refused_head}
+use Rattle.ask_session.proofs.ReadReplyLaws.{answer_is, can_read, found_damaged, found_fine, get_long, get_served, refused_with}
+use Rattle.ask_session.specs.Ready.{CanServe}
+use Rattle.ask_session.proofs.ServingLaws.{refused_stays, serves_same}
 use Rattle.work_session.specs.Counts.{asked_by, calls_by}
 use Rattle.work_session.specs.Jobs.{Charges, Does, most_read}
-use Rattle.work_session.proofs.DoneLaws.{IsShortChange, change_charges, nothing_charged, refused_asks, small_change, sound_if}
+use Rattle.work_session.proofs.DoneLaws.{IsShortChange, store_model, nothing_charged, refused_asks, small_change, sound_if}
 use Rattle.placement_model.proofs.EntryLaws.{len-read_at}
 
 -- ---- refused
@@ -74,7 +74,7 @@ change_result : {classes : ℕ} (s new : StoreValue) (c : Change) (a d : disk.St
     → OnOk (answer_change result) (IsStore classes new) → length s.asked ≡ width
     → OnOk (answer_change result) (Charges classes (ask.change c) s new a d)
 change_result s new c a d (Ok done) h short x step sound full =
-    change_charges s new c a d done h full short x step sound
+    store_model s new c a d done h full short x step sound
 change_result {classes} s new c a d (Err w) h short x step sound full =
     by (refused_by s (ask.change c)) refl x.answer
   where

@@ -20,18 +20,18 @@ use Rattle.extent_table.specs.declared.spot.Spot.{Spot}
 use Rattle.extent_table.specs.Extents.{Spots}
 use Rattle.placement_model.specs.Reads.{EndWithin, read_at}
 use Rattle.flush_run.specs.Parts.{size_in}
-use Rattle.change_charges.specs.Sized.{IsSizedBy}
-use Rattle.change_charges.proofs.SizedLaws.{sized_entries, sized_gone, sized_volume, sized_len}
+use Rattle.store_model.specs.Sized.{IsSizedBy}
+use Rattle.store_model.proofs.SizedLaws.{sized_entries, sized_gone, sized_volume, sized_len}
 use Rattle.move_cost.specs.Costs.{IsCost}
-use Rattle.store_answers.specs.declared.answers.Refusal.{Refusal}
-use Rattle.store_answers.specs.declared.answers.Refusal.TheVariants as why
-use Rattle.store_answers.specs.declared.answers.Done.{Done}
-use Rattle.store_answers.specs.Answers.{AnswersChange, done_reply, refused_by}
-use Rattle.store_answers.specs.Changes.{ChangesQuietly}
-use Rattle.store_answers.specs.Changing.{IsChange}
+use Rattle.store_model.specs.declared.answers.Refusal.{Refusal}
+use Rattle.store_model.specs.declared.answers.Refusal.TheVariants as why
+use Rattle.store_model.specs.declared.answers.Done.{Done}
+use Rattle.store_model.specs.Answers.{AnswersChange, done_reply, refused_by}
+use Rattle.store_model.specs.Changes.{ChangesQuietly}
+use Rattle.store_model.specs.Changing.{IsChange}
 use Rattle.store_model.specs.Connection.{IsOver, StoreValue, base_of, limits_of, state_of}
-use Rattle.store_answers.specs.Flushes.{ChangesByFlush, IsFlush, names_after, size_after}
-use Rattle.store_answers.specs.Keeps.{now_map}
+use Rattle.store_model.specs.Flushes.{ChangesByFlush, IsFlush, names_after, size_after}
+use Rattle.store_model.specs.Keeps.{now_map}
 use Rattle.store_model.specs.Quiet.{asked_after, charges_of, del_of, put_of, sizes_at}
 use Rattle.store_model.specs.States.{State, Step}
 use Rattle.store_model.specs.Stores.{IsStore}
@@ -42,10 +42,10 @@ use Rattle.store_costs.proofs.MadeLaws.{flush_next, quiet_next}
 use Rattle.store_costs.proofs.WeighedLaws.{in_zeros, sized_now, zeros}
 use Rattle.ask_text.specs.declared.reply.Reply as text
 use Rattle.ask_text.specs.declared.ends.End.{End}
-use Rattle.ask_serve.specs.ReplyLines.{answer_change, answer_of, done_reply_line}
-use Rattle.ask_serve.specs.Serving.{is_changing, is_disk_fault, reply_at}
+use Rattle.ask_session.specs.ReplyLines.{answer_change, answer_of, done_reply_line}
+use Rattle.ask_session.specs.Serving.{is_changing, is_disk_fault, reply_at}
 use Rattle.ask_session.proofs.GrowingLaws.{and_none}
-use Rattle.ask_serve.specs.Ready.{CanServe}
+use Rattle.ask_session.specs.Ready.{CanServe}
 use Rattle.work_session.specs.Counts.{asked_by, calls_by}
 use Rattle.work_session.specs.Jobs.{Charges, most_read, most_rise, read_head}
 use Rattle.work_session.proofs.RowLaws.{all_added_few, class_few}
@@ -316,8 +316,8 @@ module _ {classes : ℕ} (s new : StoreValue) (c : Change) (a d : disk.State) (d
           );
         }
 
-  pub change_charges : Charges classes (ask.change c) s new a d
-  change_charges = elim (cases_Bool (is_quiet (charges_of s c))) [
+  pub store_model : Charges classes (ask.change c) s new a d
+  store_model = elim (cases_Bool (is_quiet (charges_of s c))) [
     | inl quiet ↦ quiet_charges quiet
     | inr needs_flush ↦ loud_charges needs_flush
   ]

@@ -17,7 +17,7 @@ use Rattle.store_costs.proofs.SessionLaws.{opened_has_paid}
 use Rattle.ask_text.specs.Replies.{reply_line_of}
 use Rattle.ask_text.specs.declared.reply.Reply as text
 use Rattle.ask_text.specs.declared.reply.Reply.TheVariants as said
-use Rattle.ask_serve.specs.Serving.{reply_at}
+use Rattle.ask_session.specs.Serving.{reply_at}
 use Rattle.ask_session.specs.Runs.{last_state}
 use Rattle.work_session.specs.Counts.{asked_by, asked_in, calls_by, calls_in, kept_of, ok_of, read_of, refused_of}
 use Rattle.work_session.specs.Jobs.{Charges, HasLedger, TallyOf, read_head, tally_with}

@@ -3,12 +3,12 @@ use Rattle.std.specs.Prelude.{◌≡◌, ℕ, ◌≤◌, List, [], ◌∷◌, �
 use Rattle.std.proofs.Common.{ap, sym, ◌∙◌, subst, append-nil}
 use Rattle.disk_face.specs.States as disk
 use Rattle.map_model.specs.Requests.{Reply, Request}
-use Rattle.store_answers.proofs.StepLaws.{always}
+use Rattle.store_model.proofs.StepLaws.{always}
 use Rattle.store_model.specs.Connection.{IsConnected, StoreValue}
 use Rattle.store_model.specs.Opened.{IsFresh}
 use Rattle.ask_text.specs.declared.reply.Reply as text
 use Rattle.ask_text.specs.declared.ends.End.{End}
-use Rattle.ask_serve.specs.Serving.{reply_at}
+use Rattle.ask_session.specs.Serving.{reply_at}
 use Rattle.work_session.specs.Jobs.{Does, HasTally, no_tally, tally_with}
 use Rattle.work_session.specs.Servers.{BecameAll, HasServed, IsServing, ServesJob, words_of}
 use Rattle.work_session.specs.Works.{EndsAt, HasStopped, LinesOf}

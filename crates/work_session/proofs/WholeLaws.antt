@@ -7,7 +7,7 @@ use Rattle.slot_codec.specs.declared.codec.SuperBlock.{SuperBlock}
 use Rattle.map_model.specs.Maps.{volume}
 use Rattle.map_model.specs.Requests.{Request}
 use Rattle.segment_layout.specs.Books.{book_end}
-use Rattle.change_charges.proofs.SizedLaws.{sized_volume}
+use Rattle.store_model.proofs.SizedLaws.{sized_volume}
 use Rattle.move_cost.specs.Costs.{IsCost, factor, flat, linear, potential, seek}
 use Rattle.move_cost.specs.Lawful.{flat_is, linear_is, seek_is}
 use Rattle.store_model.specs.Connection.{IsOver, StoreValue, base_of, state_of}

@@ -19,10 +19,10 @@ use Rattle.store_model.specs.States.{Limits, State, Step}
 use Rattle.store_model.specs.Stores.{IsStore}
 use Rattle.ask_text.specs.declared.ends.End.{End}
 use Rattle.ask_text.specs.declared.ends.End.TheVariants as ends
-use Rattle.ask_serve.specs.Serving.{IsServingImage, Serves, is_changing, reply_at, served_at}
+use Rattle.ask_session.specs.Serving.{IsServingImage, Serves, is_changing, reply_at, served_at}
 use Rattle.ask_session.specs.Runs.{IsRunImage, IsStepImage, OpensToKept, last_state, most_sequence}
 use Rattle.ask_session.proofs.GrowingLaws.{and_none, chain_more, last_more, saves_within, some_last, some_more}
-use Rattle.ask_serve.proofs.MakesLaws.{makes}
+use Rattle.ask_session.proofs.MakesLaws.{makes}
 use Rattle.ask_session.proofs.RunLaws.{opens_with}
 use Rattle.work_session.specs.Works.{HasStopped, HasWorked, IsJobImage}
 

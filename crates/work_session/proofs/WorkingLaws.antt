@@ -7,7 +7,7 @@ use Rattle.store_model.specs.Connection.{IsConnected, StoreValue, state_of}
 use Rattle.store_model.specs.Opened.{IsFresh}
 use Rattle.ask_text.specs.declared.reply.Reply as text
 use Rattle.ask_text.specs.declared.ends.End.{End}
-use Rattle.ask_serve.specs.Serving.{reply_at}
+use Rattle.ask_session.specs.Serving.{reply_at}
 use Rattle.work_session.specs.Jobs.{Does, IsWorking, no_tally, tally_with}
 use Rattle.work_session.specs.Works.{HasStopped}
 use Rattle.work_session.specs.declared.tally.Tally.{Tally}

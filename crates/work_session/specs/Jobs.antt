@@ -18,7 +18,7 @@ use Rattle.ask_text.specs.declared.reply.Reply.{Reply}
 use Rattle.ask_text.specs.declared.reply.Reply.TheVariants as head
 use Rattle.ask_text.specs.declared.ends.End.{End}
 use Rattle.ask_text.specs.declared.ends.End.TheVariants as ends
-use Rattle.ask_serve.specs.Serving.{Serves, reply_at}
+use Rattle.ask_session.specs.Serving.{Serves, reply_at}
 use Rattle.work_maker.specs.declared.job.Job.{Job}
 use Rattle.work_maker.specs.declared.job.Job.TheVariants as job
 use Rattle.work_session.specs.declared.summary.Summary.{Summary}

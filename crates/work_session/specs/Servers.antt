@@ -8,7 +8,7 @@ use Rattle.read_cache.specs.CacheValues.{CacheValue}
 use Rattle.read_cache.specs.Lists.{after}
 use Rattle.ask_text.specs.declared.reply.Reply as text
 use Rattle.ask_text.specs.declared.ends.End.{End}
-use Rattle.ask_serve.specs.Serving.{reply_at}
+use Rattle.ask_session.specs.Serving.{reply_at}
 use Rattle.work_session.specs.declared.summary.Summary.{Summary}
 use Rattle.work_session.specs.declared.tally.Tally.{Tally}
 use Rattle.work_session.specs.Works.{HasDone}

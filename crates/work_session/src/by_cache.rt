@@ -12,7 +12,7 @@ ghost use Rattle.work_session.specs.Servers.{BecomesCached, ServesJob};
 
 use crate::Server;
 use crate::sink::Dropped;
-use ask_serve::{answer_change, answer_of};
+use ask_session::{answer_change, answer_of};
 use ask_text::{End, Reply};
 use data_area::Ledger;
 use disk_face::Disk;

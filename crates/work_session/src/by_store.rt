@@ -11,7 +11,7 @@ ghost use Rattle.work_session.specs.Servers.{ServesJob};
 
 use crate::Server;
 use crate::sink::Dropped;
-use ask_serve::{answer_change, answer_of};
+use ask_session::{answer_change, answer_of};
 use ask_text::{End, Reply};
 use data_area::Ledger;
 use disk_face::Disk;

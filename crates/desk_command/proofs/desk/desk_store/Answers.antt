@@ -1,6 +1,6 @@
 -- A desk ran to its end, or there was no memory for one.
 use Rattle.std.proofs.Common.{inl, refl}
-use Rattle.ask_serve.specs.Outside.{held, seen_by}
+use Rattle.ask_session.specs.Outside.{held, seen_by}
 use Rattle.desk_command.proofs.AlwaysLaws.{source_same}
 use Rattle.desk_command.proofs.WentLaws.{desk_source, desk_steps}
 use Rattle.desk_command.proofs.desk.desk_store.Goals as goal

@@ -1,6 +1,6 @@
 use Rattle.std.proofs.Common.{◌+◌, ◌++◌, ◌∷◌, [], ℕ, List, IsTrue, arith, ap, ◌∙◌, drop, length}
 use Rattle.ask_text.specs.Asks.{line_of}
-use Rattle.ask_serve.proofs.RequestLemmas.{no_object}
+use Rattle.ask_session.proofs.RequestLemmas.{no_object}
 use Rattle.desk_core.proofs.SaidLaws.{hears_bare, hears_dropped, hears_kept, kept_front}
 use Rattle.desk_core.proofs.said.read_behind.Goals as goal
 

@@ -1,5 +1,5 @@
 use Rattle.std.proofs.Common.{◌++◌, Bool, Ok, IsTrue, arith, ap, subst, sym}
-use Rattle.ask_serve.proofs.BodyLemmas.{no_newline}
+use Rattle.ask_session.proofs.BodyLemmas.{no_newline}
 use Rattle.desk_core.proofs.said.read_object.Goals as goal
 
 pub returns-in-Ok-true-clause-none : goal.returns-in-Ok-true-clause-none

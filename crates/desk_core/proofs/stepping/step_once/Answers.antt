@@ -1,6 +1,6 @@
 use Rattle.std.proofs.Common.{◌≡◌, arith, ap, refl, subst, Ok, Err, inl}
-use Rattle.store_answers.specs.declared.answers.Progress.{Progress}
-use Rattle.store_answers.specs.declared.answers.Progress.TheVariants as progress
+use Rattle.store_model.specs.declared.answers.Progress.{Progress}
+use Rattle.store_model.specs.declared.answers.Progress.TheVariants as progress
 use Rattle.ask_text.specs.declared.ends.End.{End}
 use Rattle.desk_model.specs.Desks.{StepsOn}
 use Rattle.desk_core.specs.Playing.{StepsFlush}

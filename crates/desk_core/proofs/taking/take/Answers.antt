@@ -2,7 +2,7 @@ use Rattle.std.proofs.Common.{sym, subst, refl, ◌∙◌, inl, inr, arith}
 use Rattle.disk_face.specs.Devices.{devices}
 use Rattle.map_model.specs.Requests as ask
 use Rattle.map_model.specs.Requests.{Request}
-use Rattle.ask_serve.proofs.KindLaws.{back_is, keep_is, stat_is}
+use Rattle.ask_session.proofs.KindLaws.{back_is, keep_is, stat_is}
 use Rattle.desk_core.specs.Playing.{TakesRequest, owned}
 use Rattle.desk_core.proofs.TakeLaws.{always_ok, answer_takes}
 use Rattle.desk_core.proofs.taking.take.Goals as goal

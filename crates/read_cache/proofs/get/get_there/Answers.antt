@@ -2,7 +2,7 @@ use Rattle.std.specs.Prelude.{is_some, refl}
 use Rattle.std.proofs.Common.{ap, arith, sym}
 use Rattle.std.proofs.lemmas.Bool.{lt-ltb}
 use Rattle.std.specs.FinMap as fin
-use Rattle.store_answers.specs.Answers.{size_at}
+use Rattle.store_model.specs.Answers.{size_at}
 use Rattle.store_model.specs.Connection.{state_of}
 use Rattle.store_model.specs.States.{object_in}
 use Rattle.read_cache.specs.Coherence.{IsHeld}

@@ -5,8 +5,8 @@ use Rattle.std.proofs.lemmas.List.{length-take}
 use Rattle.std.specs.FinMap as fin
 use Rattle.disk_face.specs.Devices.{devices}
 use Rattle.map_model.specs.Requests as ask
-use Rattle.store_answers.specs.Answers.{refused_by, size_at}
-use Rattle.store_answers.specs.Readings.{IsRead}
+use Rattle.store_model.specs.Answers.{refused_by, size_at}
+use Rattle.store_model.specs.Readings.{IsRead}
 use Rattle.read_cache.specs.Gets.{size_got}
 use Rattle.read_cache.proofs.GetLaws.{entered_size, fetched_are, fetched_size, found_now, read_put, read_stopped}
 use Rattle.read_cache.proofs.get.take_in.Goals as goal

@@ -1,7 +1,7 @@
 use Rattle.std.proofs.Common.{◌≡◌, ◌⊎◌, ◌∙◌, true, ap, sym, subst}
 use Rattle.std.specs.Prelude.{IsTrue, false}
 use Rattle.disk_face.specs.Devices.{devices}
-use Rattle.ask_serve.specs.Outside.{held, outside_of, seen_by}
+use Rattle.ask_session.specs.Outside.{held, outside_of, seen_by}
 use Rattle.command_face.specs.declared.status.TheConstants.{DISK_FAILED, NO_FILE, NO_STORE}
 use Rattle.command_face.specs.Mounting.{IsMounted}
 use Rattle.command_face.specs.Refusing.{IsRefused}

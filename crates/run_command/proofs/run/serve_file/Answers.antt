@@ -1,5 +1,5 @@
 -- Where the file is there a session over it goes on, and else no stream is called.
-use Rattle.ask_serve.specs.Outside.{held, seen_by}
+use Rattle.ask_session.specs.Outside.{held, seen_by}
 use Rattle.run_command.proofs.StepsLemmas.{steps_served, steps_unmounted}
 use Rattle.run_command.proofs.run.serve_file.Goals as goal
 

@@ -1,4 +1,4 @@
-use Rattle.ask_serve.specs.Outside.{held, seen_by}
+use Rattle.ask_session.specs.Outside.{held, seen_by}
 use Rattle.run_command.proofs.StepsLemmas.{steps_session, steps_unbegun}
 use Rattle.run_command.proofs.run.serve_store.Goals as goal
 

@@ -1,7 +1,7 @@
 use Rattle.std.proofs.Common.{lit<, refl}
 use Rattle.flush_run.specs.Parts.{parts_of}
 use Rattle.store_model.proofs.BegunLaws.{del_begun, del_ready}
-use Rattle.store_answers.proofs.CopyChargesLaws.{charges_after}
+use Rattle.store_model.proofs.CopyChargesLaws.{charges_after}
 use Rattle.store_core.proofs.begin.start_del.Goals as goal
 
 pub boundary-b-requires : goal.boundary-b-requires

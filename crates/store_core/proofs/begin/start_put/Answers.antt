@@ -4,7 +4,7 @@ use Rattle.segment_layout.specs.Layouts.{caps_of, divisor_of, grid_of}
 use Rattle.flush_run.specs.Parts.{parts_of}
 use Rattle.store_model.proofs.BegunLaws.{placed_begun, placed_ends, placed_ready, room_for, waiting_begun, waiting_high, waiting_new, waiting_ready, waiting_some}
 use Rattle.store_model.proofs.DigestLaws.{digest_given}
-use Rattle.store_answers.proofs.CopyChargesLaws.{charges_after}
+use Rattle.store_model.proofs.CopyChargesLaws.{charges_after}
 use Rattle.store_core.proofs.begin.start_put.Goals as goal
 
 pub boundary-boundary-requires : goal.boundary-boundary-requires

@@ -4,8 +4,8 @@ use Rattle.segment_layout.specs.Layouts.{caps_of, divisor_of}
 use Rattle.flush_model.specs.Begins.{Begins, with_pending}
 use Rattle.flush_run.specs.Hands.{suffix_items}
 use Rattle.flush_run.specs.Shelved.{items_now, phase_now}
-use Rattle.change_charges.specs.Starts.{IsWith}
-use Rattle.change_charges.proofs.ChargedLaws.{class_low}
+use Rattle.store_model.specs.Starts.{IsWith}
+use Rattle.store_model.proofs.OutcomeLaws.{class_low}
 use Rattle.flush_plan.specs.Shelves.{course_of}
 use Rattle.size_class.specs.declared.TheConstants.{SIZE_MAX}
 use Rattle.store_model.proofs.BeginLaws.{items_waiting, start_flush, start_holds, start_low, start_on_shelf, start_reach, start_waits}

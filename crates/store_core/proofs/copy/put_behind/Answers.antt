@@ -2,7 +2,7 @@ use Rattle.std.proofs.Common.{◌≡◌, ◌+◌, ◌-◌, ◌++◌, Err, IsTrue
 use Rattle.std.proofs.lemmas.List.{length-take-le}
 use Rattle.byte_ranges.specs.Ranges.{bytes_at}
 use Rattle.disk_face.specs.Streams.{Puts}
-use Rattle.store_answers.proofs.PutsLaws.{parts_behind, puts_after, puts_as, puts_cut}
+use Rattle.store_model.proofs.PutsLaws.{parts_behind, puts_after, puts_as, puts_cut}
 use Rattle.store_core.proofs.copy.put_behind.Goals as goal
 
 pub returns-clause-put : goal.returns-clause-put

@@ -1,5 +1,5 @@
 use Rattle.std.proofs.Common.{IsTrue, arith}
-use Rattle.store_answers.proofs.PutsLaws.{puts_after}
+use Rattle.store_model.proofs.PutsLaws.{puts_after}
 use Rattle.store_core.proofs.copy.put_both.Goals as goal
 
 pub returns-clause-put : goal.returns-clause-put

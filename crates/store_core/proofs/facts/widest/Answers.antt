@@ -1,8 +1,8 @@
 use Rattle.std.specs.Prelude.{◌≡◌, ℕ, ◌-◌, ◌*◌, ◌%◌, ◌^◌, ◌≤◌, List, length, slice_index}
 use Rattle.std.proofs.Common.{◌∙◌, ap, arith, inl, inr, subst, sym}
 use Rattle.std.proofs.lemmas.Bool.{cases_lt}
-use Rattle.store_answers.specs.Facts.{widest_of}
-use Rattle.store_answers.proofs.FactsLaws.{classes_in-above, widest_shifted}
+use Rattle.store_model.specs.Facts.{widest_of}
+use Rattle.store_model.proofs.FactsLaws.{classes_in-above, widest_shifted}
 use Rattle.store_core.proofs.facts.widest.Goals as goal
 use Rattle.store_core.proofs.facts.widest.Goals.{else-caps-c-gt0, then-caps-c-gt0}
 

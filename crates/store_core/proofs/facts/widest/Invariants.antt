@@ -1,5 +1,5 @@
 use Rattle.std.specs.Prelude.{◌≡◌, ℕ, ◌<◌, ◌≤◌, slice_index}
-use Rattle.store_answers.specs.Facts.{classes_in}
+use Rattle.store_model.specs.Facts.{classes_in}
 use Rattle.store_core.proofs.facts.widest.Given as goal
 
 abbrev pub invariant-classes : goal.invariant-classes

@@ -1,4 +1,4 @@
-use Rattle.store_answers.proofs.OpenedLaws.{tight_kept, tight_now}
+use Rattle.store_model.proofs.OpenedLaws.{tight_kept, tight_now}
 use Rattle.store_core.proofs.laws.a_store_is_tight.Goals as goal
 
 pub returns-clause-now : goal.returns-clause-now

@@ -1,4 +1,4 @@
-use Rattle.store_answers.proofs.WidestLaws.{laid_narrow}
+use Rattle.store_model.proofs.WidestLaws.{laid_narrow}
 use Rattle.store_core.proofs.laws.no_object_is_wider.Goals as goal
 
 pub returns-clause-now : goal.returns-clause-now

@@ -8,8 +8,8 @@ use Rattle.extent_table.specs.Extents.{digests_seen}
 use Rattle.flush_run.specs.declared.hands.Hands.{Hands}
 use Rattle.store_model.specs.Connection.{opened_store}
 use Rattle.store_model.specs.Resuming.{MakesStore}
-use Rattle.store_answers.specs.Inside.{Inside}
-use Rattle.store_answers.proofs.OpenedLaws.{IsNew, new_view, new_whole}
+use Rattle.store_model.specs.Inside.{Inside}
+use Rattle.store_model.proofs.OpenedLaws.{IsNew, new_view, new_whole}
 use Rattle.store_core.proofs.memory.store_with.Goals as goal
 
 abbrev made : {C : ℕ} → Hands C → Ledger C → Inside C

@@ -1,7 +1,7 @@
 use Rattle.std.specs.Prelude.{◌≡◌, true, false}
 use Rattle.std.proofs.Common.{◌∙◌, arith, rules, subst, sym}
-use Rattle.store_answers.specs.Above.{is_above}
-use Rattle.store_answers.proofs.AboveLaws.{IsHalved, first_none, first_some, halved_down, halved_first, halved_up}
+use Rattle.store_model.specs.Above.{is_above}
+use Rattle.store_model.proofs.AboveLaws.{IsHalved, first_none, first_some, halved_down, halved_first, halved_up}
 use Rattle.store_core.proofs.next.first_above.Goals as goal
 
 pub halves-init : goal.halves-init

@@ -1,5 +1,5 @@
 use Rattle.std.specs.Prelude.{◌-◌}
-use Rattle.store_answers.proofs.AboveLaws.{IsHalved}
+use Rattle.store_model.proofs.AboveLaws.{IsHalved}
 use Rattle.store_core.proofs.next.first_above.Given as goal
 
 abbrev pub invariant-halves : goal.invariant-halves

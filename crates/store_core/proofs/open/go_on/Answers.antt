@@ -9,7 +9,7 @@ use Rattle.store_model.specs.Opened.{IsOpening}
 use Rattle.store_model.specs.Resuming.{PacksAgain, StartsAgain}
 use Rattle.store_model.proofs.GoingLaws.{some_again}
 use Rattle.store_model.proofs.OpeningLaws.{no_memory}
-use Rattle.store_answers.proofs.ResumedLaws.{again_done, again_failed, makes_store}
+use Rattle.store_model.proofs.ResumedLaws.{again_done, again_failed, makes_store}
 use Rattle.store_core.proofs.open.go_on.Goals as goal
 
 pub resume-requires : goal.resume-requires

@@ -3,7 +3,7 @@ use Rattle.std.proofs.lemmas.Grind.{common_steps}
 use Rattle.byte_ranges.specs.Ranges.{bytes_at}
 use Rattle.sha2.specs.Sha256.{sha256}
 use Rattle.disk_face.proofs.FrameLaws.{Unchanged-trans}
-use Rattle.store_answers.proofs.RenewLaws.{ends_within, entry_is, only_digests, renewed_next, renewed_table}
+use Rattle.store_model.proofs.RenewLaws.{ends_within, entry_is, only_digests, renewed_next, renewed_table}
 use Rattle.store_core.proofs.renew.renew_all.Goals as goal
 
 pub overflow_add-base : goal.overflow_add-base

@@ -2,7 +2,7 @@ use Rattle.std.proofs.Common.{◌≡◌, IsTrue, length}
 use Rattle.std.specs.FinMap as fin
 use Rattle.disk_face.specs.Frames.{Unchanged}
 use Rattle.extent_table.specs.Extents.{IsTable}
-use Rattle.store_answers.proofs.RenewLaws.{AreRenewed}
+use Rattle.store_model.proofs.RenewLaws.{AreRenewed}
 use Rattle.store_core.proofs.renew.renew_all.Given as goal
 
 abbrev pub invariant-names : goal.invariant-names

@@ -1,5 +1,5 @@
 use Rattle.std.proofs.Common.{◌≡◌, arith, refl, false, true, ◌∙◌}
-use Rattle.ask_serve.specs.Outside.{held, outside}
+use Rattle.ask_session.specs.Outside.{held, outside}
 use Rattle.ask_session.proofs.RunLaws.{has_run_more, has_run_none, last_turn_of, not_budget}
 use Rattle.ask_session.proofs.session.Session.run.Goals as goal
 

@@ -1,6 +1,6 @@
 use Rattle.std.proofs.Common.{◌≡◌, ◌-◌, ◌≤◌, false}
 use Rattle.store_model.specs.Stores.{IsStore}
-use Rattle.ask_serve.specs.Outside.{outside}
+use Rattle.ask_session.specs.Outside.{outside}
 use Rattle.ask_session.specs.Runs.{HasRun}
 use Rattle.ask_session.proofs.session.Session.run.Given as goal
 

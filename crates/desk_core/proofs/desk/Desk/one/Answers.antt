@@ -2,7 +2,7 @@ use Rattle.std.proofs.Common.{◌≡◌, ◌∙◌, ◌++◌, ◌∷◌, Bool, t
 use Rattle.ask_text.specs.declared.ends.End.{End}
 use Rattle.ask_text.specs.declared.ends.End.TheVariants as ends
 use Rattle.ask_text.specs.declared.ends.Turn.{Turn}
-use Rattle.ask_serve.specs.Outside.{outside}
+use Rattle.ask_session.specs.Outside.{outside}
 use Rattle.desk_model.specs.Events as event
 use Rattle.desk_core.specs.declared.event.EventLine.{EventLine}
 use Rattle.desk_core.specs.declared.event.EventLine.TheVariants as line

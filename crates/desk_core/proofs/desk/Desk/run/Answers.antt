@@ -1,5 +1,5 @@
 use Rattle.std.proofs.Common.{◌≡◌, arith, refl, false, true}
-use Rattle.ask_serve.specs.Outside.{held, outside}
+use Rattle.ask_session.specs.Outside.{held, outside}
 use Rattle.desk_core.proofs.ImageLaws.{opens_now}
 use Rattle.desk_core.proofs.PlayedLaws.{ends_in, no_budget, played_more, played_none}
 use Rattle.desk_core.proofs.desk.Desk.run.Goals as goal

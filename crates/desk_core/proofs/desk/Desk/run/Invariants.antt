@@ -1,5 +1,5 @@
 use Rattle.std.proofs.Common.{◌-◌, ◌≤◌}
-use Rattle.ask_serve.specs.Outside.{outside}
+use Rattle.ask_session.specs.Outside.{outside}
 use Rattle.desk_core.specs.Runs.{HasPlayed}
 use Rattle.desk_core.proofs.desk.Desk.run.Given as goal
 

@@ -1,9 +1,9 @@
 use Rattle.std.proofs.Common.{◌≡◌, ◌∙◌, false, lit<, refl, subst, sym, length, take, List, ℕ}
 use Rattle.std.specs.Prelude.{Err, IfOk, Ok, if◌then◌else◌}
 use Rattle.lent_disk.specs.Notings.{content}
-use Rattle.store_answers.specs.declared.answers.Refusal.TheVariants as why
-use Rattle.store_answers.specs.Answers.{size_at}
-use Rattle.store_answers.specs.Readings.{asks_for, is_damaged_read, object_read, spot_read}
+use Rattle.store_model.specs.declared.answers.Refusal.TheVariants as why
+use Rattle.store_model.specs.Answers.{size_at}
+use Rattle.store_model.specs.Readings.{asks_for, is_damaged_read, object_read, spot_read}
 use Rattle.store_model.specs.Connection.{state_of}
 use Rattle.lent_store.specs.Embedded.{Embedded, file_in}
 use Rattle.lent_store.specs.Readings.{CanCopy, object_answer}

@@ -1,10 +1,10 @@
 use Rattle.std.proofs.Common.{◌≡◌, arith, false, rules, subst, ◌≤◌, ◌<◌}
 use Rattle.std.specs.Prelude.{Err}
 use Rattle.std.proofs.lemmas.Bool.{lt-ltb}
-use Rattle.store_answers.specs.declared.answers.Refusal.TheVariants as why
-use Rattle.store_answers.specs.Answers.{refused_by, size_at}
-use Rattle.store_answers.specs.Readings.{asks_for, spot_read}
-use Rattle.store_answers.proofs.AnsweredLaws.{number_refused, number_served}
+use Rattle.store_model.specs.declared.answers.Refusal.TheVariants as why
+use Rattle.store_model.specs.Answers.{refused_by, size_at}
+use Rattle.store_model.specs.Readings.{asks_for, spot_read}
+use Rattle.store_model.proofs.AnsweredLaws.{number_refused, number_served}
 use Rattle.lent_store.specs.Embedded.{Embedded}
 use Rattle.lent_store.specs.Readings.{CanCopy, read_answer}
 use Rattle.lent_store.proofs.CopyLaws.{refused_answer, short_answer}

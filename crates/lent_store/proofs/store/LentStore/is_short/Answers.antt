@@ -1,7 +1,7 @@
 use Rattle.std.proofs.Common.{ap, arith, subst, sym}
 use Rattle.slot_codec.specs.Readable.{IsSuperBlock}
 use Rattle.slot_pair.specs.Formats.{block_for}
-use Rattle.store_answers.specs.declared.answers.Facts.{Facts}
+use Rattle.store_model.specs.declared.answers.Facts.{Facts}
 use Rattle.lent_store.proofs.RoomLaws.{low_volume, narrow}
 use Rattle.lent_store.proofs.store.LentStore.is_short.Goals as goal
 

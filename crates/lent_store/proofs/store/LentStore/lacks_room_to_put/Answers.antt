@@ -1,7 +1,7 @@
 use Rattle.std.proofs.Common.{◌∙◌, ap, subst, Err, Ok}
 use Rattle.map_model.specs.Requests as ask
-use Rattle.store_answers.specs.Answers.{refused_by}
-use Rattle.store_answers.specs.Plans.{AcceptsName}
+use Rattle.store_model.specs.Answers.{refused_by}
+use Rattle.store_model.specs.Plans.{AcceptsName}
 use Rattle.store_model.specs.Connection.{StoreValue}
 use Rattle.store_model.specs.Quiet.{put_of}
 use Rattle.lent_store.specs.Embedded.{Embedded}

@@ -1,6 +1,6 @@
 use Rattle.std.proofs.Common.{rules, length}
 use Rattle.lent_store.specs.Readings.{CanCopy}
-use Rattle.store_answers.specs.Readings.{asks_for}
+use Rattle.store_model.specs.Readings.{asks_for}
 use Rattle.lent_store.proofs.CopyLaws.{not_into, read_into}
 use Rattle.lent_store.proofs.store.LentStore.read.Goals as goal
 

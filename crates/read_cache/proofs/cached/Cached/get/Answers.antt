@@ -3,8 +3,8 @@ use Rattle.std.proofs.Common.{ap, subst, sym, ◌∙◌}
 use Rattle.std.specs.FinMap as fin
 use Rattle.disk_face.specs.Devices.{devices}
 use Rattle.map_model.specs.Requests as ask
-use Rattle.store_answers.specs.Answers.{size_at}
-use Rattle.store_answers.specs.Readings.{IsRead}
+use Rattle.store_model.specs.Answers.{size_at}
+use Rattle.store_model.specs.Readings.{IsRead}
 use Rattle.store_model.specs.Stores.{IsStore}
 use Rattle.store_model.proofs.HalfLaws.{standing_of}
 use Rattle.read_cache.specs.CacheValues.{CacheValue}

@@ -5,15 +5,15 @@ use Rattle.std.proofs.lemmas.Grind.{common_steps}
 use Rattle.std.specs.FinMap as fin
 use Rattle.slot_codec.specs.Names.{is_name}
 use Rattle.map_model.specs.Requests as ask
-use Rattle.store_answers.specs.declared.answers.Refusal.{Refusal}
-use Rattle.store_answers.specs.declared.answers.Refusal.TheVariants as why
-use Rattle.store_answers.specs.Answers.{refused_by}
-use Rattle.store_answers.specs.Plans.{AcceptsName}
+use Rattle.store_model.specs.declared.answers.Refusal.{Refusal}
+use Rattle.store_model.specs.declared.answers.Refusal.TheVariants as why
+use Rattle.store_model.specs.Answers.{refused_by}
+use Rattle.store_model.specs.Plans.{AcceptsName}
 use Rattle.store_model.specs.Connection.{StoreValue}
 use Rattle.store_model.specs.Quiet.{del_of}
 use Rattle.store_core.proofs.LentLaws.{lent_rest}
 use Rattle.store_core.proofs.store.Store.accepts_del.Goals as goal
-use Rattle.store_answers.proofs.PlanLaws.{answered}
+use Rattle.store_model.proofs.PlanLaws.{answered}
 
 pub returns-in_err-name : goal.returns-in_err-name
 returns-in_err-name g c = grind (arith, common_steps)

@@ -6,18 +6,18 @@ use Rattle.std.specs.FinMap as fin
 use Rattle.size_class.specs.declared.TheConstants.{SIZE_MAX}
 use Rattle.slot_codec.specs.Names.{is_name}
 use Rattle.map_model.specs.Requests as ask
-use Rattle.store_answers.specs.declared.answers.Refusal.{Refusal}
-use Rattle.store_answers.specs.declared.answers.Refusal.TheVariants as why
-use Rattle.store_answers.specs.Answers.{refused_by}
+use Rattle.store_model.specs.declared.answers.Refusal.{Refusal}
+use Rattle.store_model.specs.declared.answers.Refusal.TheVariants as why
+use Rattle.store_model.specs.Answers.{refused_by}
 use Rattle.extent_table.specs.Extents.{Spots}
 use Rattle.store_model.specs.Connection.{StoreValue, live_cap}
-use Rattle.store_answers.specs.Plans.{AcceptsName}
+use Rattle.store_model.specs.Plans.{AcceptsName}
 use Rattle.store_model.specs.Quiet.{put_of}
-use Rattle.store_answers.proofs.InsideLaws.{opened}
+use Rattle.store_model.proofs.InsideLaws.{opened}
 use Rattle.store_core.proofs.LentLaws.{lent, lent_rest}
 use Rattle.store_core.proofs.store.Store.accepts_put.Goals as goal
 use Rattle.store_core.proofs.store.Store.accepts_put.Goals.{else-is_none-via-then-is_none+else-not-room, else-is_none-via-else-is_none}
-use Rattle.store_answers.proofs.PlanLaws.{answered}
+use Rattle.store_model.proofs.PlanLaws.{answered}
 
 pub returns-in_err-name : goal.returns-in_err-name
 returns-in_err-name g c = grind (arith, common_steps)

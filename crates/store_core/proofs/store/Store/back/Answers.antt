@@ -2,9 +2,9 @@ use Rattle.std.proofs.Common.{◌∙◌, ap, subst, sym}
 use Rattle.store_model.specs.Connection.{IsOver, StoreValue, limits_of, state_of}
 use Rattle.store_model.specs.States.{Step}
 use Rattle.map_model.specs.Requests as ask
-use Rattle.store_answers.proofs.BackLaws.{back_view, back_whole, gone_back, over_back, step_back}
+use Rattle.store_model.proofs.BackLaws.{back_view, back_whole, gone_back, over_back, step_back}
 use Rattle.segment_layout.specs.declared.layout.Layout.{Layout}
-use Rattle.store_answers.specs.Inside.{Inside, IsWhole, kept_of}
+use Rattle.store_model.specs.Inside.{Inside, IsWhole, kept_of}
 use Rattle.store_core.proofs.LentLaws.{lent, lent_rest}
 use Rattle.store_core.proofs.store.Store.back.Goals as goal
 

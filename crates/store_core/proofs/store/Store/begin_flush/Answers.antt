@@ -1,11 +1,11 @@
 use Rattle.std.specs.Prelude.{◌+◌, ◌*◌}
 use Rattle.std.proofs.Common.{arith, lit<, refl}
 use Rattle.store_model.specs.Charges.{change_of}
-use Rattle.store_answers.proofs.BegunServeLaws.{begin_done, begin_failed, begin_going}
-use Rattle.store_answers.proofs.CopyChargesLaws.{bytes_of_change}
-use Rattle.store_answers.proofs.FlushChangeLaws.{flush_can_run}
+use Rattle.store_model.proofs.BegunServeLaws.{begin_done, begin_failed, begin_going}
+use Rattle.store_model.proofs.CopyChargesLaws.{bytes_of_change}
+use Rattle.store_model.proofs.FlushChangeLaws.{flush_can_run}
 use Rattle.store_core.proofs.LentLaws.{lent_rest}
-use Rattle.store_answers.proofs.StartedLaws.{can_start}
+use Rattle.store_model.proofs.StartedLaws.{can_start}
 use Rattle.store_core.proofs.store.Store.begin_flush.Goals as goal
 
 pub start_change-begun-requires : goal.start_change-begun-requires

@@ -1,10 +1,10 @@
 use Rattle.std.specs.Prelude.{List, ℕ}
 use Rattle.std.proofs.Common.{subst}
-use Rattle.store_answers.specs.Begins.{BeginsServed}
+use Rattle.store_model.specs.Begins.{BeginsServed}
 use Rattle.store_model.specs.Quiet.{put_of}
-use Rattle.store_answers.proofs.BegunServeLaws.{begins_refused, begins_served}
-use Rattle.store_answers.proofs.PlanLaws.{accepted}
-use Rattle.store_answers.proofs.RefusedLaws.{refused_change_step, unaccepted}
+use Rattle.store_model.proofs.BegunServeLaws.{begins_refused, begins_served}
+use Rattle.store_model.proofs.PlanLaws.{accepted}
+use Rattle.store_model.proofs.RefusedLaws.{refused_change_step, unaccepted}
 use Rattle.store_core.proofs.store.Store.begin_put.Goals as goal
 
 pub returns-in-Ok-clause-begins : goal.returns-in-Ok-clause-begins

@@ -1,6 +1,6 @@
 use Rattle.std.proofs.Common.{◌∙◌, sym}
-use Rattle.store_answers.proofs.BegunServeLaws.{begins_quietly, begins_stopped}
-use Rattle.store_answers.proofs.CopyChargesLaws.{charged_quiet}
+use Rattle.store_model.proofs.BegunServeLaws.{begins_quietly, begins_stopped}
+use Rattle.store_model.proofs.CopyChargesLaws.{charged_quiet}
 use Rattle.store_core.proofs.store.Store.begin_put_accepted.Goals as goal
 
 pub returns-in-Ok : goal.returns-in-Ok

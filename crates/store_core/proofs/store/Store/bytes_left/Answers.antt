@@ -1,5 +1,5 @@
 use Rattle.std.proofs.Common.{arith}
-use Rattle.store_answers.proofs.BytesLeftLaws.{going_small}
+use Rattle.store_model.proofs.BytesLeftLaws.{going_small}
 use Rattle.store_core.proofs.LentLaws.{steps_from}
 use Rattle.store_core.proofs.store.Store.bytes_left.Goals as goal
 

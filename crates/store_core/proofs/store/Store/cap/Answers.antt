@@ -2,9 +2,9 @@ use Rattle.std.proofs.Common.{◌∙◌, ap, refl, subst, sym, true}
 use Rattle.slot_codec.specs.Spelling.{cap}
 use Rattle.slot_codec.specs.declared.codec.SuperBlock.{SuperBlock}
 use Rattle.store_model.specs.Connection.{live_cap}
-use Rattle.store_answers.specs.Inside.{Inside, IsWhole, kept_of}
+use Rattle.store_model.specs.Inside.{Inside, IsWhole, kept_of}
 use Rattle.store_core.specs.Boxes.{unboxed}
-use Rattle.store_answers.proofs.InsideLaws.{parts_at, version_is}
+use Rattle.store_model.proofs.InsideLaws.{parts_at, version_is}
 use Rattle.store_core.proofs.LentLaws.{beside, lent, lent_is}
 use Rattle.store_core.proofs.store.Store.cap.Goals as goal
 

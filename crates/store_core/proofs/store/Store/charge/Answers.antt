@@ -2,8 +2,8 @@ use Rattle.std.proofs.Common.{◌∙◌, ap, lit<, subst}
 use Rattle.std.specs.FinMap as fin
 use Rattle.store_model.specs.Charges.{ChargesStore}
 use Rattle.store_model.specs.Connection.{StoreValue}
-use Rattle.store_answers.proofs.CopyChargesLaws.{charged_here}
-use Rattle.store_answers.proofs.InsideLaws.{opened}
+use Rattle.store_model.proofs.CopyChargesLaws.{charged_here}
+use Rattle.store_model.proofs.InsideLaws.{opened}
 use Rattle.store_core.proofs.LentLaws.{lent, lent_rest}
 use Rattle.store_model.proofs.StoreLaws.{small_if_there}
 use Rattle.store_core.proofs.store.Store.charge.Goals as goal

@@ -1,10 +1,10 @@
 use Rattle.std.specs.Prelude.{List, ℕ}
 use Rattle.std.proofs.Common.{subst}
-use Rattle.store_answers.specs.Flushes.{ServesChange}
+use Rattle.store_model.specs.Flushes.{ServesChange}
 use Rattle.store_model.specs.Quiet.{del_of}
-use Rattle.store_answers.proofs.ChangingLaws.{change_refused, change_served}
-use Rattle.store_answers.proofs.PlanLaws.{accepted}
-use Rattle.store_answers.proofs.RefusedLaws.{refused_change_step, unaccepted}
+use Rattle.store_model.proofs.ChangingLaws.{change_refused, change_served}
+use Rattle.store_model.proofs.PlanLaws.{accepted}
+use Rattle.store_model.proofs.RefusedLaws.{refused_change_step, unaccepted}
 use Rattle.store_core.proofs.store.Store.del.Goals as goal
 
 pub returns-in-Ok-clause-change : goal.returns-in-Ok-clause-change

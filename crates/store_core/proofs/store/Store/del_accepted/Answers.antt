@@ -2,11 +2,11 @@ use Rattle.std.proofs.Common.{◌∙◌, ap, arith, inl, refl, rules, subst, sym
 use Rattle.store_model.specs.Connection.{IsOver, StoreValue}
 use Rattle.segment_layout.specs.Layouts.{caps_of, divisor_of, grid_of}
 use Rattle.store_model.specs.Quiet.{del_of}
-use Rattle.store_answers.proofs.CopyChargesLaws.{charged_gone, charged_loud, charged_quiet, del_plan}
-use Rattle.store_answers.proofs.EffectLaws.{no_effects}
-use Rattle.store_answers.proofs.PlanLaws.{del_served}
-use Rattle.store_answers.proofs.QuietLaws.{del_step, del_value, over_beside}
-use Rattle.store_answers.proofs.ServeLaws.{serves_quietly}
+use Rattle.store_model.proofs.CopyChargesLaws.{charged_gone, charged_loud, charged_quiet, del_plan}
+use Rattle.store_model.proofs.EffectLaws.{no_effects}
+use Rattle.store_model.proofs.PlanLaws.{del_served}
+use Rattle.store_model.proofs.QuietLaws.{del_step, del_value, over_beside}
+use Rattle.store_model.proofs.ServeLaws.{serves_quietly}
 use Rattle.store_core.proofs.store.Store.del_accepted.Goals as goal
 
 pub charge-charged-requires : goal.charge-charged-requires

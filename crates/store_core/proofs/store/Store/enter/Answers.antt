@@ -17,7 +17,7 @@ use Rattle.store_model.specs.Stores.{AreInRange}
 use Rattle.store_model.proofs.DigestLaws.{few_put, seen_with, version_with}
 use Rattle.store_model.proofs.ChangeLaws.{can_free, place_ends, store_freed, store_put, with_now}
 use Rattle.store_model.proofs.EndLaws.{end_low}
-use Rattle.store_answers.proofs.InsideLaws.{changed_view, changed_whole, opened}
+use Rattle.store_model.proofs.InsideLaws.{changed_view, changed_whole, opened}
 use Rattle.store_core.proofs.LentLaws.{lent, lent_rest}
 use Rattle.store_model.proofs.StoreLaws.{small_if_there}
 use Rattle.store_core.proofs.store.Store.enter.Goals as goal

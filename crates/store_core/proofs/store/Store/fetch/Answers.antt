@@ -1,12 +1,12 @@
 use Rattle.std.specs.Prelude.{◌≡◌, List, ℕ, IfOk, Option, take}
 use Rattle.std.proofs.Common.{ap, arith, lit<, subst, sym}
-use Rattle.store_answers.specs.Answers.{size_at}
-use Rattle.store_answers.specs.Readings.{asks_for, digest_read}
-use Rattle.store_answers.specs.Reads.{IsJudged}
+use Rattle.store_model.specs.Answers.{size_at}
+use Rattle.store_model.specs.Readings.{asks_for, digest_read}
+use Rattle.store_model.specs.Reads.{IsJudged}
 use Rattle.placement_model.specs.Reads.{object_at}
 use Rattle.store_model.specs.Connection.{base_of}
-use Rattle.store_answers.proofs.ReadLaws.{found_in_range, found_object, found_within}
-use Rattle.store_answers.proofs.ReadingLaws.{is_found, named_if}
+use Rattle.store_model.proofs.ReadLaws.{found_in_range, found_object, found_within}
+use Rattle.store_model.proofs.ReadingLaws.{is_found, named_if}
 use Rattle.store_core.proofs.store.Store.fetch.Goals as goal
 
 pub fetch_spot-requires : goal.fetch_spot-requires

@@ -2,10 +2,10 @@ use Rattle.std.proofs.Common.{◌∙◌, ap, lit<}
 use Rattle.flush_run.specs.Parts.{HandsValue}
 use Rattle.flush_run.specs.Shelved.{phase_now}
 use Rattle.store_model.specs.Charges.{change_of}
-use Rattle.store_answers.proofs.CopyChargesLaws.{bytes_of_change}
-use Rattle.store_answers.proofs.FlushChangeLaws.{flush_can_run, flush_done, flush_done_whole, flush_failed}
+use Rattle.store_model.proofs.CopyChargesLaws.{bytes_of_change}
+use Rattle.store_model.proofs.FlushChangeLaws.{flush_can_run, flush_done, flush_done_whole, flush_failed}
 use Rattle.store_core.proofs.LentLaws.{lent_rest}
-use Rattle.store_answers.proofs.StartedLaws.{can_start}
+use Rattle.store_model.proofs.StartedLaws.{can_start}
 use Rattle.store_core.proofs.store.Store.flush_change.Goals as goal
 
 pub start_change-begun-requires : goal.start_change-begun-requires

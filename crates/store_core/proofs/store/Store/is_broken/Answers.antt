@@ -1,7 +1,7 @@
 use Rattle.std.proofs.Common.{subst}
 use Rattle.store_model.specs.Stores.{IsStanding, IsStore}
 use Rattle.store_core.specs.Boxes.{unboxed}
-use Rattle.store_answers.proofs.InsideLaws.{standing_at}
+use Rattle.store_model.proofs.InsideLaws.{standing_at}
 use Rattle.store_core.proofs.LentLaws.{rest_of}
 use Rattle.store_core.proofs.store.Store.is_broken.Goals as goal
 

@@ -15,7 +15,7 @@ use Rattle.store_model.specs.Quiet.{del_of}
 use Rattle.store_model.specs.Stores.{AreInRange}
 use Rattle.store_model.proofs.DigestLaws.{few_gone, seen_gone, version_after}
 use Rattle.store_model.proofs.ChangeLaws.{can_free, store_gone}
-use Rattle.store_answers.proofs.InsideLaws.{changed_view, changed_whole, opened}
+use Rattle.store_model.proofs.InsideLaws.{changed_view, changed_whole, opened}
 use Rattle.store_core.proofs.LentLaws.{lent, lent_rest}
 use Rattle.store_model.proofs.StoreLaws.{small_if_there}
 use Rattle.store_core.proofs.store.Store.leave.Goals as goal

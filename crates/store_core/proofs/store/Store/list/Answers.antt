@@ -1,4 +1,4 @@
-use Rattle.store_answers.proofs.StepLaws.{always, list_step}
+use Rattle.store_model.proofs.StepLaws.{always, list_step}
 use Rattle.store_core.proofs.store.Store.list.Goals as goal
 
 pub returns-clause-step : goal.returns-clause-step

@@ -4,7 +4,7 @@ use Rattle.map_model.specs.Maps.{Map}
 use Rattle.store_model.specs.Connection.{StoreValue}
 use Rattle.store_model.specs.Digested.{IsDigestFor}
 use Rattle.store_model.proofs.DigestLaws.{digest_given}
-use Rattle.store_answers.specs.Inside.{kept_of}
+use Rattle.store_model.specs.Inside.{kept_of}
 use Rattle.store_core.proofs.LentLaws.{beside, lent_is}
 use Rattle.store_core.proofs.store.Store.own_digest.Goals as goal
 

@@ -1,7 +1,7 @@
 use Rattle.std.proofs.Common.{lit<}
-use Rattle.store_answers.specs.Readings.{asks_for}
-use Rattle.store_answers.proofs.ReadLaws.{found_in_range}
-use Rattle.store_answers.proofs.ReadingLaws.{is_found}
+use Rattle.store_model.specs.Readings.{asks_for}
+use Rattle.store_model.proofs.ReadLaws.{found_in_range}
+use Rattle.store_model.proofs.ReadingLaws.{is_found}
 use Rattle.store_core.proofs.store.Store.position.Goals as goal
 
 pub position_at-requires : goal.position_at-requires

@@ -1,7 +1,7 @@
 use Rattle.std.proofs.Common.{◌∙◌, arith, sym}
-use Rattle.store_answers.proofs.CopyChargesLaws.{charged_loud, charged_quiet, put_plan}
-use Rattle.store_answers.proofs.PlanLaws.{put_served}
-use Rattle.store_answers.proofs.ServeLaws.{serves_quietly}
+use Rattle.store_model.proofs.CopyChargesLaws.{charged_loud, charged_quiet, put_plan}
+use Rattle.store_model.proofs.PlanLaws.{put_served}
+use Rattle.store_model.proofs.ServeLaws.{serves_quietly}
 use Rattle.store_core.proofs.store.Store.put_accepted.Goals as goal
 
 pub charge-charged-requires : goal.charge-charged-requires

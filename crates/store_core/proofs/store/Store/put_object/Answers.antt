@@ -1,11 +1,11 @@
 use Rattle.std.proofs.Common.{◌≡◌, ap, arith, refl, rules, subst, sym, ◌∙◌, ℕ, Err, None, Result}
-use Rattle.store_answers.specs.Answers.{AnswersRead}
-use Rattle.store_answers.specs.declared.answers.Refusal.{Refusal}
+use Rattle.store_model.specs.Answers.{AnswersRead}
+use Rattle.store_model.specs.declared.answers.Refusal.{Refusal}
 use Rattle.std.proofs.lemmas.Grind.{common_steps}
-use Rattle.store_answers.specs.Inside.{HoldsAt, seen}
-use Rattle.store_answers.proofs.InsideLaws.{holds_with, parts_at}
+use Rattle.store_model.specs.Inside.{HoldsAt, seen}
+use Rattle.store_model.proofs.InsideLaws.{holds_with, parts_at}
 use Rattle.store_core.proofs.LentLaws.{lent, lent_is}
-use Rattle.store_answers.proofs.ReadingLaws.{read_stops}
+use Rattle.store_model.proofs.ReadingLaws.{read_stops}
 use Rattle.data_area.proofs.CauseLaws.{disk_cause_as, sink_cause_as}
 use Rattle.store_core.proofs.store.Store.put_object.Goals as goal
 

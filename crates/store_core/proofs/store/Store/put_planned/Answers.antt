@@ -5,11 +5,11 @@ use Rattle.segment_layout.specs.Layouts.{caps_of, divisor_of, grid_of}
 use Rattle.store_model.specs.Connection.{StoreValue}
 use Rattle.store_model.specs.Quiet.{IsCharged, put_of}
 use Rattle.store_model.proofs.ChangeLaws.{apart_kept, place_ends}
-use Rattle.store_answers.proofs.EffectLaws.{calls_err, calls_ok, position_fits, quiet_effects}
-use Rattle.store_answers.proofs.InsideLaws.{opened}
+use Rattle.store_model.proofs.EffectLaws.{calls_err, calls_ok, position_fits, quiet_effects}
+use Rattle.store_model.proofs.InsideLaws.{opened}
 use Rattle.store_core.proofs.LentLaws.{lent, lent_rest, rest_of}
-use Rattle.store_answers.proofs.PlanLaws.{put_served}
-use Rattle.store_answers.proofs.QuietLaws.{put_entered, put_over, put_step, put_value}
+use Rattle.store_model.proofs.PlanLaws.{put_served}
+use Rattle.store_model.proofs.QuietLaws.{put_entered, put_over, put_step, put_value}
 use Rattle.store_core.proofs.store.Store.put_planned.Goals as goal
 
 pub write_new-requires-clause-fits : goal.write_new-requires-clause-fits

@@ -2,10 +2,10 @@ use Rattle.std.proofs.Common.{ap, arith, subst, ◌∙◌, List, Option, Some, �
 use Rattle.segment_layout.specs.Books.{differs}
 use Rattle.placement_model.specs.Reads.{object_at}
 use Rattle.store_model.specs.Connection.{base_of}
-use Rattle.store_answers.specs.Reads.{IsJudged}
-use Rattle.store_answers.specs.Readings.{asks_for}
-use Rattle.store_answers.proofs.ReadLaws.{found_in_range, found_within, read_found, read_refused}
-use Rattle.store_answers.proofs.ReadingLaws.{is_found, named_if}
+use Rattle.store_model.specs.Reads.{IsJudged}
+use Rattle.store_model.specs.Readings.{asks_for}
+use Rattle.store_model.proofs.ReadLaws.{found_in_range, found_within, read_found, read_refused}
+use Rattle.store_model.proofs.ReadingLaws.{is_found, named_if}
 use Rattle.store_core.proofs.store.Store.read_behind.Goals as goal
 
 pub put_object-requires : goal.put_object-requires

@@ -10,11 +10,11 @@ use Rattle.extent_table.specs.Extents.{digests_seen}
 use Rattle.extent_table.proofs.SaveLaws.{rolled_in_range}
 use Rattle.flush_run.proofs.RolledLaws.{rolled_count}
 use Rattle.store_model.specs.Digested.{digested_book}
-use Rattle.store_answers.specs.Inside.{kept_of}
-use Rattle.store_answers.proofs.EffectLaws.{calls_err, calls_ok}
-use Rattle.store_answers.proofs.KeepEffectLaws.{header_is, keep_done, keep_failed, keep_over, keep_step, kept_view, kept_whole}
-use Rattle.store_answers.proofs.KeepLaws.{length-records_of}
-use Rattle.store_answers.proofs.InsideLaws.{few_live}
+use Rattle.store_model.specs.Inside.{kept_of}
+use Rattle.store_model.proofs.EffectLaws.{calls_err, calls_ok}
+use Rattle.store_model.proofs.KeepEffectLaws.{header_is, keep_done, keep_failed, keep_over, keep_step, kept_view, kept_whole}
+use Rattle.store_model.proofs.KeepLaws.{length-records_of}
+use Rattle.store_model.proofs.InsideLaws.{few_live}
 use Rattle.store_core.proofs.LentLaws.{lent, lent_rest, rest_of}
 use Rattle.store_core.proofs.store.Store.save_now.Goals as goal
 

@@ -2,7 +2,7 @@ use Rattle.std.proofs.Common.{◌∙◌, ap}
 use Rattle.std.specs.FinMap as fin
 use Rattle.extent_table.specs.Extents.{volume_of}
 use Rattle.store_model.specs.Connection.{StoreValue}
-use Rattle.store_answers.proofs.StepLaws.{stat_step}
+use Rattle.store_model.proofs.StepLaws.{stat_step}
 use Rattle.store_core.proofs.LentLaws.{lent_rest}
 use Rattle.store_core.proofs.store.Store.stat.Goals as goal
 

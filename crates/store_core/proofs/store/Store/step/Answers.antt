@@ -1,8 +1,8 @@
 use Rattle.std.specs.Prelude.{◌≡◌, ◌-◌, None}
 use Rattle.std.proofs.Common.{arith, inl, inr, lit<, refl, rules}
 use Rattle.flush_run.specs.declared.whole.Halted.{Halted}
-use Rattle.store_answers.specs.declared.answers.Refusal.TheVariants as why
-use Rattle.store_answers.proofs.StepExitLaws.{step_counts, step_failed, step_more, step_moved_answers, step_moved_going, step_settled_answers, step_settled_whole, step_start}
+use Rattle.store_model.specs.declared.answers.Refusal.TheVariants as why
+use Rattle.store_model.proofs.StepExitLaws.{step_counts, step_failed, step_more, step_moved_answers, step_moved_going, step_settled_answers, step_settled_whole, step_start}
 use Rattle.store_core.proofs.LentLaws.{steps_from}
 use Rattle.store_core.proofs.store.Store.step.Goals as goal
 

@@ -6,9 +6,9 @@ use Rattle.slot_codec.specs.Spelling.{cap}
 use Rattle.slot_codec.specs.declared.codec.SuperBlock.{SuperBlock}
 use Rattle.slot_codec.proofs.CapLaws.{cap-low}
 use Rattle.extent_table.specs.Extents.{Extents}
-use Rattle.store_answers.proofs.EffectLaws.{calls_err, calls_ok}
+use Rattle.store_model.proofs.EffectLaws.{calls_err, calls_ok}
 use Rattle.store_core.proofs.LentLaws.{lent_rest}
-use Rattle.store_answers.proofs.UpgradeExitLaws.{upgradable, upgrade_can_save, upgrade_done, upgrade_stopped, upgrade_unsaved, upgrade_whole, upgrade_within}
+use Rattle.store_model.proofs.UpgradeExitLaws.{upgradable, upgrade_can_save, upgrade_done, upgrade_stopped, upgrade_unsaved, upgrade_whole, upgrade_within}
 use Rattle.store_core.proofs.store.Store.upgrade_now.Goals as goal
 
 pub renew_all-requires-clause-within : goal.renew_all-requires-clause-within
