@@ -1,6 +1,7 @@
 -- What a save of a checkpoint leaves.
 use Rattle.std.specs.Prelude.{◌≡◌, ◌⊎◌, ℕ, ◌+◌, ◌-◌, ◌*◌, ◌/◌, ◌^◌, ◌<◌, ◌≤◌, IsTrue, true, if◌then◌else◌, List, [], length, flat_map, slice_index_or, Ok}
 use Rattle.byte_ranges.specs.Ranges.{SameBelow, SameFrom, bytes_at}
+use Rattle.disk_face.specs.Frames.{call_weight}
 use Rattle.disk_face.specs.Moments.{Leaves, Rests}
 use Rattle.disk_face.specs.States.{State}
 use Rattle.slot_codec.specs.Choice as choice
@@ -22,6 +23,11 @@ pub record CanSave (u : choice.InUse) (h : Header) (rs : List Record) : Type 0 w
 -- the changing calls of a save of so many records
 abbrev pub save_calls : ℕ → ℕ
 save_calls count = 6 + (count + 511) / 512
+
+-- at most how many bytes spell the changing calls of a save: 17 each, and what they write, which is a header, the
+-- records, and at most nine bytes that close and open a slot
+abbrev pub save_weight : ℕ → ℕ → ℕ
+save_weight version count = call_weight * save_calls count + (9 + header_len + record_len version * count)
 
 -- the slot in use after the next save
 abbrev pub next_in_use : choice.InUse → choice.InUse

@@ -2,7 +2,7 @@
 ghost use Rattle.std.specs.Prelude.{◌≡◌, ◌+◌, ◌*◌, ◌/◌, ◌^◌, ◌<◌, ◌≤◌, OnOk, IsTrue, drop, flat_map, length, take};
 ghost use Rattle.byte_ranges.specs.Ranges.{bytes_at};
 ghost use Rattle.slot_codec.specs.{Reading.{is_version}, Spelling.{header_bytes, header_len, record_bytes, record_len}};
-ghost use Rattle.disk_face.specs.{Counts.{HasCause, counted}, Frames.{Calls}, Moments.{Rests}, Writes.{WritesWithin}};
+ghost use Rattle.disk_face.specs.{Counts.{HasCause, counted}, Frames.{Asks, Calls, call_weight}, Moments.{Rests}, Writes.{WritesWithin}};
 ghost use Rattle.slot_pair.specs.Saves.{HasTable};
 
 use disk_face::{Disk, DiskFault};
@@ -34,6 +34,9 @@ pub fn write_table<D: Disk, R: Roll>(
         (D.state disk.old) (D.state disk.new) }
     ensures calls { Calls (2 + (length (R.records roll.now) + 511) / 512) (D.state disk.old)
         (D.state disk.new) result }
+    ensures asks { Asks (call_weight * (2 + (length (R.records roll.now) + 511) / 512) + (header_len
+        + record_len header.now.version * length (R.records roll.now))) 0 (D.state disk.old)
+        (D.state disk.new) }
 {
     put_table(disk, at, header, roll, buf)?;
     disk.sync()
@@ -61,6 +64,9 @@ fn put_table<D: Disk, R: Roll>(
         (D.state disk.old) (D.state disk.new) }
     ensures calls { Calls (1 + (length (R.records roll.now) + 511) / 512) (D.state disk.old)
         (D.state disk.new) result }
+    ensures asks { Asks (call_weight * (1 + (length (R.records roll.now) + 511) / 512) + (header_len
+        + record_len header.now.version * length (R.records roll.now))) 0 (D.state disk.old)
+        (D.state disk.new) }
 {
     put_header(disk, at, header, buf)?;
     put_records(disk, at + HEADER_LEN as u64, header.version, roll, buf)
@@ -81,6 +87,7 @@ fn put_header<D: Disk>(
     ensures writes { WritesWithin at header_len (D.state disk.old) (D.state disk.new) }
     ensures calls { (D.state disk.new).turn ≡ counted (D.state disk.old).turn 1 }
     ensures cause { HasCause (D.state disk.old).faults (D.state disk.new).faults result }
+    ensures asks { Asks (call_weight + header_len) 0 (D.state disk.old) (D.state disk.new) }
 {
     let n = spell_header(header, buf);
     disk.write_at(at, &buf[..n])
@@ -107,6 +114,8 @@ fn put_records<D: Disk, R: Roll>(
         (D.state disk.new) }
     ensures calls { Calls ((length (R.records roll.now) + 511) / 512) (D.state disk.old) (D.state disk.new)
         result }
+    ensures asks { Asks (call_weight * ((length (R.records roll.now) + 511) / 512) + record_len version * length
+        (R.records roll.now)) 0 (D.state disk.old) (D.state disk.new) }
 {
     put_pieces(disk, at, version, record_len(version), roll, buf)
 }
@@ -136,6 +145,8 @@ fn put_pieces<D: Disk, R: Roll>(
         (D.state disk.new) }
     ensures calls { Calls ((length (R.records roll.now) + 511) / 512) (D.state disk.old) (D.state disk.new)
         result }
+    ensures asks { Asks (call_weight * ((length (R.records roll.now) + 511) / 512) + len * length
+        (R.records roll.now)) 0 (D.state disk.old) (D.state disk.new) }
 {
     let count = roll.count();
     'pieces: for piece in 0..(count + 511) / RECORDS_A_WRITE {

@@ -1,8 +1,8 @@
 //! The pair of slots of an open file.
 ghost use Rattle.std.specs.Prelude.{◌≡◌, ◌≤◌, Ok, IfOk, IfErr, IsTrue, OnErr, OnOk, length};
-ghost use Rattle.disk_face.specs.{Frames.{Calls, Unchanged}, Writes.{KeepsDisk}};
+ghost use Rattle.disk_face.specs.{Frames.{Asks, Calls, Unchanged}, Writes.{KeepsDisk}};
 ghost use Rattle.slot_codec.specs.{Choice.{chosen, slot_in_use}, Readable.{IsSuperBlock}, Spelling.{head_len, slot_at}};
-ghost use Rattle.slot_pair.specs.{Finding.{HasDiskCause, Refuses, chosen_header, in_use_of}, Saves.{CanSave, IsNextPair, IsSaveDone, SaveLeaves, save_calls}};
+ghost use Rattle.slot_pair.specs.{Finding.{HasDiskCause, Refuses, chosen_header, in_use_of}, Saves.{CanSave, IsNextPair, IsSaveDone, SaveLeaves, save_calls, save_weight}};
 
 use crate::body::write_table;
 use crate::find::{choose, read_chosen_header};
@@ -111,6 +111,8 @@ impl SlotPair {
         ensures same_pair { OnErr result (self.new ≡ self.old) }
         ensures calls { Calls (save_calls (length (R.records roll.now))) (D.state disk.old) (D.state disk.new)
             result }
+        ensures asks { Asks (save_weight header.now.version (length (R.records roll.now))) 0
+            (D.state disk.old) (D.state disk.new) }
         ensures done { IsTrue (D.state disk.old).tells
             → OnOk result (IsSaveDone self.old header.now (R.records roll.now) (D.state disk.new)) }
         ensures left { IsTrue (D.state disk.old).tells

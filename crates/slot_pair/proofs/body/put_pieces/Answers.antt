@@ -1,9 +1,10 @@
-use Rattle.std.proofs.Common.{◌+◌, ◌*◌, ◌≡◌, ◌≤◌, ℕ, IsTrue, arith, flat_map, length, min, refl, subst, sym, take, List}
+use Rattle.std.proofs.Common.{◌+◌, ◌*◌, ◌≡◌, ◌≤◌, ℕ, IsTrue, arith, flat_map, length, min, refl, subst, sym, take, List, ap}
 use Rattle.std.proofs.lemmas.Grind.{common_steps}
 use Rattle.std.proofs.lemmas.List.{length-take-le}
 use Rattle.std.proofs.Math.Nat.{mul-le-mul_left}
 use Rattle.byte_ranges.specs.Ranges.{bytes_at}
 use Rattle.slot_codec.specs.Spelling.{record_bytes}
+use Rattle.disk_face.proofs.FrameLaws.{asks_then}
 use Rattle.disk_face.proofs.WriteLaws.{within-none, within-trans, within-wider, within-write}
 use Rattle.slot_pair.proofs.RecordLemmas.{next_written, none_written}
 use Rattle.slot_pair.proofs.body.put_pieces.Goals as goal
@@ -15,6 +16,7 @@ pieces-init g c = record {
       (g.D.Disk.state c.args.disk.now).file c.args.at (g.R.Roll.records c.args.roll.now);
   calls = omega (arith, (g.met.D.Disk.lawful c.args.disk.now).turn_fits);
   calm = refl;
+  asks = record { weight = omega arith; longest = omega arith };
 }
 
 pub overflow_add-piece-end : goal.overflow_add-piece-end
@@ -72,6 +74,22 @@ returns-in_err-write_at-clause-writes g c =
     (within-wider c.args.at (len * length rs) (omega arith) (omega (arith, mul-le-mul_left len far, long))
     (within-write c.write_at.ensures.frame))
 
+pub returns-in_err-write_at-clause-asks : goal.returns-in_err-write_at-clause-asks
+returns-in_err-write_at-clause-asks g c =
+    let len : ℕ = c.args.len in
+    let n : ℕ = c.min-n.result in
+    let first : ℕ = 512 * c.pieces.piece in
+    let rs = g.R.Roll.records c.args.roll.now in
+    let far : first + n ≤ length rs = omega arith in
+    let few : n ≤ 512 = omega arith in
+    let in_room : len * n ≤ length c.spell_records.new.out =
+    omega (arith, mul-le-mul_left len few, c.requires.short) in
+    let long : length (take (len * n) c.spell_records.new.out)
+    ≡ len * n = length-take-le (len * n) c.spell_records.new.out in_room in
+    let so_far : min first (length rs) ≡ first = omega arith in
+    asks_then c.pieces.invariant.asks c.write_at.ensures.frame.asks
+    (omega (arith, long, mul-le-mul_left len far, ap (λ k. len * k) so_far)) (omega arith) (omega arith)
+
 pub pieces-preserved : goal.pieces-preserved
 pieces-preserved g c =
     let D = g.D.Disk in
@@ -120,6 +138,8 @@ pieces-preserved g c =
           before);
       calls = omega (arith, w.frame.one_turn, c.pieces.invariant.calls);
       calm = omega (arith, c.in_ok-write_at.ensures.cause.calm, c.pieces.invariant.calm);
+      asks = asks_then c.pieces.invariant.asks w.frame.asks
+          (omega (arith, long, ap (λ k. len * k) so_far, ap (λ k. len * k) then)) (omega arith) (omega arith);
     }
 
 pub returns : goal.returns

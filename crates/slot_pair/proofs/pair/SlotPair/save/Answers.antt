@@ -1,4 +1,4 @@
-use Rattle.std.proofs.Common.{◌∙◌, ◌-◌, ◌≤◌, IsTrue, Ok, ap, arith, length, subst, sym}
+use Rattle.std.proofs.Common.{◌≡◌, ◌∙◌, ◌-◌, ◌≤◌, IsTrue, Err, Ok, ap, arith, length, rules, subst, sym}
 use Rattle.std.proofs.lemmas.Grind.{common_steps}
 use Rattle.slot_codec.specs.Choice.{InUse}
 use Rattle.slot_codec.proofs.CapLaws.{records_fit}
@@ -134,6 +134,7 @@ returns-in_err-write_table g c =
 pub returns-in_err-open_gate : goal.returns-in_err-open_gate
 returns-in_err-open_gate g c =
     let at = goal.at.returns-in_err-open_gate g c in
+    let is : c.from_residual-in_err-open_gate.result ≡ Err c.in_err-open_gate.field-0.0 = search rules in
     record {
       pair = grind (arith, common_steps);
       same_pair = grind (arith, common_steps);
@@ -145,7 +146,35 @@ returns-in_err-open_gate g c =
           c.in_ok-write_table.ensures.calls.all,
           c.open_gate.ensures.calls.most,
         );
-        cause = grind (arith, common_steps);
+        cause = record {
+          later = omega (
+            arith,
+            c.in_ok-close_other.ensures.calls.cause.calm,
+            c.in_ok-write_table.ensures.calls.cause.calm,
+            c.open_gate.ensures.calls.cause.later,
+          );
+          rose = rw (is) (omega (
+            arith,
+            c.in_ok-close_other.ensures.calls.cause.calm,
+            c.in_ok-write_table.ensures.calls.cause.calm,
+            c.in_err-open_gate.ensures.calls.cause.rose,
+          ));
+          calm = grind (arith);
+        };
+      };
+      asks = record {
+        weight = omega (
+          arith,
+          c.close_other.ensures.asks.weight,
+          c.write_table.ensures.asks.weight,
+          c.open_gate.ensures.asks.weight,
+        );
+        longest = omega (
+          arith,
+          c.close_other.ensures.asks.longest,
+          c.write_table.ensures.asks.longest,
+          c.open_gate.ensures.asks.longest,
+        );
       };
       done = grind (arith, common_steps);
       left = λ told. rw (← c.self.view_is) (left_opening (written g at.In_ok-write_table
