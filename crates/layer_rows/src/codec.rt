@@ -10,7 +10,7 @@ use slot_codec::{
 };
 
 /// A position, the byte that is put there, and the fault of what is then read; none where it is read whole.
-type Row = (usize, u8, Option<CodecFault>);
+pub(crate) type Row = (usize, u8, Option<CodecFault>);
 
 const SUPERBLOCKS: &[Row] = &[
     (0, b'C', None),
@@ -56,7 +56,7 @@ const DIGESTED: &[Row] = &[
 ];
 
 /// Puts a byte at a position, if the bytes have it.
-fn put(bytes: &mut [u8], at: usize, byte: u8)
+pub(crate) fn put(bytes: &mut [u8], at: usize, byte: u8)
     ensures { length bytes.new ≡ length bytes.old }
 {
     if at < bytes.len() {
@@ -65,7 +65,7 @@ fn put(bytes: &mut [u8], at: usize, byte: u8)
 }
 
 /// Puts bytes at positions.
-fn put_all<const N: usize>(bytes: &mut [u8; N], parts: &[(usize, u8)]) {
+pub(crate) fn put_all<const N: usize>(bytes: &mut [u8; N], parts: &[(usize, u8)]) {
     for (at, byte) in parts {
         put(bytes, *at, *byte);
     }

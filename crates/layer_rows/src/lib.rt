@@ -14,6 +14,8 @@ mod digests;
 #[cfg(test)]
 mod drawn_flushes;
 #[cfg(test)]
+mod entries;
+#[cfg(test)]
 mod flush_begins;
 #[cfg(test)]
 mod flush_phases;

@@ -2,6 +2,7 @@
 #![tactic(auto)]
 
 mod codec;
+mod entry;
 mod fields;
 mod header;
 mod laws;
@@ -13,16 +14,20 @@ mod roll;
 mod write;
 
 pub use codec::{CodecFault, Header, Kind, NoMemory, Record, SuperBlock};
+pub use entry::{EntryHead, read_entry_head, read_pair, write_entry_head, write_pair};
 pub use header::read_header;
 pub use laws::{
-    a_closed_slot_may_hold_anything, a_header_has_one_spelling, a_newer_slot_takes_over,
-    a_record_has_one_spelling, a_superblock_has_one_spelling, a_table_has_one_spelling,
-    a_table_is_kept_beside_a_changed_slot, an_older_slot_may_stay_open, names_of_a_table_rise,
-    records_fit_a_slot, the_slot_lies_below_the_data, too_short_for_a_table,
+    a_closed_gate_ends_the_log, a_closed_slot_may_hold_anything, a_header_has_one_spelling,
+    a_newer_slot_takes_over, a_record_has_one_spelling, a_superblock_has_one_spelling,
+    a_table_has_one_spelling, a_table_is_kept_beside_a_changed_slot,
+    an_entry_head_has_one_spelling, an_entry_is_there_or_not, an_older_slot_may_stay_open,
+    names_of_a_table_rise, pairs_have_one_spelling, records_fit_a_slot,
+    rows_by_name_are_the_records, the_slot_lies_below_the_data, too_short_for_a_table,
+    what_stands_behind_a_log_is_not_read,
 };
 pub use lengths::{
-    DIGEST_LEN, GATE_OPEN, HEADER_LEN, RECORD_LEN, SUPERBLOCK_LEN, cap, head_len, record_len,
-    slot_len,
+    DIGEST_LEN, ENTRY_HEAD_LEN, GATE_OPEN, HEADER_LEN, PAIR_LEN, RECORD_LEN, SUPERBLOCK_LEN, cap,
+    head_len, record_len, slot_len,
 };
 pub use name::Name;
 pub use read::{read_record, read_record_after, read_superblock};

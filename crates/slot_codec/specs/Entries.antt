@@ -1,0 +1,76 @@
+-- The parts of an entry of a slot's log, behind its gate: a head, and pairs of numbers. No file of the
+-- program has a log yet.
+use Rattle.std.specs.Prelude.{ℕ, zero, suc, ◌+◌, ◌^◌, ◌<◌, ◌≤◌, ◌&&◌, ◌||◌, nat_lt, Bool, not, if◌then◌else◌, List, [], ◌∷◌, ◌++◌, slice_index, Result, Ok, Err}
+use Rattle.byte_ranges.specs.Ranges.{bytes_at}
+use Rattle.slot_codec.specs.Spelling.{kind_code, number, zeros}
+use Rattle.slot_codec.specs.Reading.{are_zeros, is_in_range, kind_of, number_at}
+use Rattle.slot_codec.specs.declared.entry.EntryHead.{EntryHead}
+use Rattle.slot_codec.specs.declared.codec.CodecFault.{CodecFault}
+use Rattle.slot_codec.specs.declared.codec.CodecFault.TheVariants as fault
+
+-- the 55 bytes of a head: kind and boundary, five zeros, four counts, the wall and the slack
+abbrev pub entry_head_bytes : EntryHead → List ℕ
+entry_head_bytes h = (kind_code h.kind ∷ h.boundary ∷ []) ++ zeros 5 ++ number h.cells ++ number h.moved
+    ++ number h.gone
+    ++ number h.puts ++ number h.wall ++ number h.slack
+
+-- the head that bytes give, whether or not they are refused
+abbrev pub entry_head_of : List ℕ → EntryHead
+entry_head_of bytes =
+    record {
+      kind = kind_of (slice_index bytes 0);
+      boundary = slice_index bytes 1;
+      cells = number_at bytes 7;
+      moved = number_at bytes 15;
+      gone = number_at bytes 23;
+      puts = number_at bytes 31;
+      wall = number_at bytes 39;
+      slack = number_at bytes 47;
+    }
+
+-- the numbers of a header that an entry can give: 32 capacities, and 32 numbers for each of 32 buffers
+abbrev pub header_cells : ℕ
+header_cells = 1056
+
+-- an entry has more cells than a header has numbers, moves or takes out more objects than the table before it
+-- has, or puts more records than a slot has room for
+abbrev pub has_too_many : ℕ → ℕ → EntryHead → Bool
+has_too_many cap count h = nat_lt header_cells h.cells || nat_lt count h.moved || nat_lt count h.gone
+    || nat_lt cap h.puts
+
+-- what 55 bytes say, or the first fault in them, behind a table of `count` names in a slot for `cap` records
+unfoldable pub read_entry_head : ℕ → ℕ → List ℕ → Result EntryHead CodecFault
+read_entry_head cap count bytes =
+    let h = entry_head_of bytes in
+    if nat_lt 1 (slice_index bytes 0) then Err fault.Kind else
+    if not (are_zeros (bytes_at bytes 2 5)) then Err fault.Zeros else
+    if has_too_many cap count h then Err fault.Count else
+    if not (is_in_range h.wall && is_in_range h.slack) then Err fault.Range else
+    Ok h
+
+-- a head whose spelling is read as it is, behind a table of `count` names in a slot for `cap` records
+pub record IsEntryHead (cap count : ℕ) (h : EntryHead) : Type 0 where
+  pub boundary : h.boundary < 256
+  pub cells : h.cells ≤ header_cells
+  pub moved : h.moved ≤ count
+  pub gone : h.gone ≤ count
+  pub puts : h.puts ≤ cap
+  pub wall : h.wall < 2 ^ 48
+  pub slack : h.slack < 2 ^ 48
+
+-- the 16 bytes of a pair: its first number, then its second
+abbrev pub pair_bytes : ℕ × ℕ → List ℕ
+pair_bytes p = number p.0 ++ number p.1
+
+-- the pair of numbers at a position
+abbrev pub pair_at : List ℕ → ℕ → ℕ × ℕ
+pair_at bytes at = (number_at bytes at, number_at bytes (at + 8))
+
+-- n pairs of numbers from a position on
+abbrev pub pairs_at : ℕ → List ℕ → ℕ → List (ℕ × ℕ)
+pairs_at zero bytes at = []
+pairs_at (suc n) bytes at = pair_at bytes at ∷ pairs_at n bytes (at + 16)
+
+-- both numbers of a pair are below 2^48
+abbrev pub is_pair : ℕ × ℕ → Bool
+is_pair p = is_in_range p.0 && is_in_range p.1

@@ -1,0 +1,120 @@
+//! The head of an entry of a log, and pairs of numbers. No file of the program has a log yet: it is to stand
+//! behind the records of a slot. An entry says what changed in the table since the entry before. It is a
+//! gate, a head, its cells and its moved objects as pairs of numbers, the names that are gone, and the
+//! records put.
+ghost use Rattle.std.specs.Prelude.{◌≡◌, IfOk, length};
+ghost use Rattle.slot_codec.specs.Entries.{IsEntryHead, entry_head_bytes, entry_head_of, has_too_many, pair_at, pair_bytes, read_entry_head};
+
+use crate::fields::{RANGE, are_zeros, kind_of, number_at};
+use crate::lengths::{ENTRY_HEAD_LEN, PAIR_LEN};
+use crate::put::{put, put_number, put_zeros};
+use crate::write::code_of;
+use crate::{CodecFault, Kind};
+
+/// What an entry of a log says of itself. The wall and the slack are in bytes and below 2^48, like those
+/// of a header, and the wall counts from the start of the data part.
+#[derive(Clone, Copy, Debug, PartialEq, Eq)]
+pub struct EntryHead {
+    /// Of the table behind the entry, like the boundary, the wall and the slack.
+    pub kind: Kind,
+    pub boundary: u8,
+    /// How many of a header's capacities and of its numbers for the buffers the entry gives, at most 1,056;
+    /// the others are 0.
+    pub cells: u64,
+    /// How many objects the entry gives a new place, at most as many as the table before it has.
+    pub moved: u64,
+    /// How many names it takes out, at most as many as the table before it has.
+    pub gone: u64,
+    /// How many records it puts, at most as many as a slot has room for.
+    pub puts: u64,
+    pub wall: u64,
+    pub slack: u64,
+}
+
+/// How many numbers of a header an entry can give: 32 capacities, and 32 for each of 32 buffers.
+const HEADER_CELLS: u64 = 1056;
+
+/// What the 55 bytes behind an entry's gate say, where the slot has room for `cap` records and the table
+/// before the entry has `count`. Else the first fault that holds: `Kind` where the first byte is neither 0
+/// nor 1, `Zeros` where one of bytes 2 to 6 isn't 0, `Count` where there are more cells than 1,056, more
+/// moved objects or names gone than `count`, or more records than `cap`, `Range` where the wall or the
+/// slack is 2^48 or more.
+#[tactic(auto, unfolding(crate::specs::Entries::read_entry_head))]
+pub fn read_entry_head(bytes: &[u8], cap: u64, count: u64) -> Result<EntryHead, CodecFault>
+    requires { length bytes.now ≡ ENTRY_HEAD_LEN }
+    ensures value { result ≡ read_entry_head cap count bytes.now }
+    ensures ranges { IfOk result (λ head. IsEntryHead cap count head) }
+{
+    if 1 < bytes[0] {
+        return Err(CodecFault::Kind);
+    }
+    if !are_zeros(&bytes[2..7]) {
+        return Err(CodecFault::Zeros);
+    }
+    let head = entry_head_of(bytes);
+    if has_too_many(&head, cap, count) {
+        return Err(CodecFault::Count);
+    }
+    if RANGE <= head.wall || RANGE <= head.slack {
+        return Err(CodecFault::Range);
+    }
+    Ok(head)
+}
+
+/// The fields by their positions, whether or not the head is at fault.
+fn entry_head_of(bytes: &[u8]) -> EntryHead
+    requires { length bytes.now ≡ ENTRY_HEAD_LEN }
+    ensures { result ≡ entry_head_of bytes.now }
+{
+    EntryHead {
+        kind: kind_of(bytes[0]),
+        boundary: bytes[1],
+        cells: number_at(bytes, 7),
+        moved: number_at(bytes, 15),
+        gone: number_at(bytes, 23),
+        puts: number_at(bytes, 31),
+        wall: number_at(bytes, 39),
+        slack: number_at(bytes, 47),
+    }
+}
+
+/// Whether one of the four counts is too great.
+fn has_too_many(head: &EntryHead, cap: u64, count: u64) -> bool
+    ensures { result ≡ has_too_many cap count head.now }
+{
+    HEADER_CELLS < head.cells || count < head.moved || count < head.gone || cap < head.puts
+}
+
+/// Writes the head of an entry into 55 bytes, its numbers as they are.
+pub fn write_entry_head(head: &EntryHead, out: &mut [u8])
+    requires { length out.old ≡ ENTRY_HEAD_LEN }
+    ensures { out.new ≡ entry_head_bytes head.now }
+{
+    put(out, 0, &[code_of(head.kind), head.boundary]);
+    put_zeros(out, 2, 5);
+    put_number(out, 7, head.cells);
+    put_number(out, 15, head.moved);
+    put_number(out, 23, head.gone);
+    put_number(out, 31, head.puts);
+    put_number(out, 39, head.wall);
+    put_number(out, 47, head.slack);
+}
+
+/// The pair of numbers that 16 bytes say, which is never a fault. Of a cell it is which number of a header, 0
+/// to 1,055, and its value; of a moved object its rank by name in the table before the entry, counted from 0,
+/// and its new place in bytes.
+pub fn read_pair(bytes: &[u8]) -> (u64, u64)
+    requires { length bytes.now ≡ PAIR_LEN }
+    ensures { result ≡ pair_at bytes.now 0 }
+{
+    (number_at(bytes, 0), number_at(bytes, 8))
+}
+
+/// Writes a pair of numbers into 16 bytes.
+pub fn write_pair(pair: (u64, u64), out: &mut [u8])
+    requires { length out.old ≡ PAIR_LEN }
+    ensures { out.new ≡ pair_bytes pair }
+{
+    put_number(out, 0, pair.0);
+    put_number(out, 8, pair.1);
+}
