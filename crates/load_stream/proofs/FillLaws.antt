@@ -1,5 +1,5 @@
 -- A formatted file, while it is filled: what it and its images stand for, up to the save and after it.
-use Rattle.std.specs.Prelude.{◌≡◌, ◌⊎◌, ℕ, ◌+◌, ◌≤◌, List, ◌++◌, length, slice_index, Result, Err, IsTrue}
+use Rattle.std.specs.Prelude.{◌≡◌, ◌⊎◌, ℕ, ◌+◌, ◌≤◌, List, ◌++◌, length, slice_index, sum, Result, Err, IsTrue}
 use Rattle.std.proofs.Common.{arith, ap, sym, ◌∙◌, inl, inr, subst, append-nil}
 use Rattle.std.specs.FinMap as fin
 use Rattle.std.proofs.lemmas.List.{length-map}
@@ -7,16 +7,17 @@ use Rattle.byte_ranges.specs.Ranges.{resized}
 use Rattle.byte_ranges.proofs.RangeLaws.{length-resized, resized-index}
 use Rattle.disk_face.specs.Counts.{counted}
 use Rattle.disk_face.specs.States.{State}
-use Rattle.disk_face.specs.Frames.{AfterLength}
+use Rattle.disk_face.specs.Frames.{AfterLength, Asks}
 use Rattle.disk_face.specs.Moments.{Leaves, Rests}
 use Rattle.disk_face.specs.Writes.{WritesWithin}
+use Rattle.disk_face.proofs.FrameLaws.{asks_nothing, asks_then}
 use Rattle.disk_face.proofs.MomentLaws.{Leaves-trans, Leaves-weaken}
 use Rattle.size_class.specs.declared.TheConstants.{SIZE_MAX}
 use Rattle.slot_codec.specs.Readable.{IsSuperBlock}
 use Rattle.slot_codec.specs.Spelling.{head_len}
 use Rattle.slot_codec.specs.declared.codec.SuperBlock.{SuperBlock}
 use Rattle.slot_pair.specs.Formats.{HasFirstTable}
-use Rattle.slot_pair.specs.Saves.{IsAlikeBelow, save_calls}
+use Rattle.slot_pair.specs.Saves.{IsAlikeBelow, save_calls, save_weight}
 use Rattle.segment_layout.specs.Layouts.{caps_of, divisor_of}
 use Rattle.segment_layout.specs.Shapes.{end_of}
 use Rattle.placement_model.specs.Reads.{read_at}
@@ -33,6 +34,7 @@ use Rattle.load_stream.specs.declared.plan.SoFar.{SoFar}
 use Rattle.load_stream.specs.Images.{StaysEmpty}
 use Rattle.load_stream.specs.Saved.{IsEmptyLike, IsEmptyOrLaid, IsLaidBeside, IsPlanFor, LeavesRead, MapRead, OpensEmpty, OpensFor, OpensLaid, OpensRead, ReadsBody, StopsBody, laid_with}
 use Rattle.load_stream.specs.Steps.{LoadsAll, Passed, StopsIn}
+use Rattle.load_stream.specs.Weights.{fill_weight, objects_weight}
 use Rattle.load_stream.proofs.LoopLaws.{loads_count}
 use Rattle.load_stream.proofs.ImageLaws.{empty_begins, empty_for, empty_resized, empty_written, first_long}
 
@@ -273,6 +275,35 @@ reads_body p now x e s0 s1 s2 s3 l same grew saved =
       ended = l.ended;
       made = omega (arith, grew, l.to.made (omega (arith, grew)), saved, ap save_calls records);
     }
+
+-- ---- what is asked
+
+module _ (p : Plan) (s0 s1 : State)
+    (grew : AfterLength (p.base + end_of (divisor_of p.layout) (caps_of p.layout)) s0 s1) where
+  abbrev AsksFill : State → Type 0
+  AsksFill now = Asks (fill_weight p.head.count (sum (caps_of p.layout)))
+      (p.base + end_of (divisor_of p.layout) (caps_of p.layout)) s0 now
+
+  -- by the file that grew
+  pub grown_asks : AsksFill s1
+  grown_asks = asks_then grew.asks (asks_nothing s1) (omega arith) (omega arith) (omega arith)
+
+  -- by the objects too
+  module _ (s2 : State) (wrote : Asks (objects_weight p.head.count (sum (caps_of p.layout))) 0 s1 s2) where
+    pub filled_asks : AsksFill s2
+    filled_asks = asks_then grew.asks wrote (omega arith) (omega arith) (omega arith)
+
+    -- and by the save of their table
+    pub saved_asks : (now : SoFar) (x : Passed) (e : Extents) (s3 : State) → LoadsAll p now x s1 s2
+        → e ≡ now.load → Asks (save_weight 1 (fin.len e.now)) 0 s2 s3 → AsksFill s3
+    saved_asks now x e s3 l same saved =
+        let count : fin.len e.now ≡ p.head.count =
+        ap (λ (t : Extents). fin.len t.now) same ∙ loads_count p now x p.head.count s1 s2 l.to in
+        let rest : Asks (objects_weight p.head.count (sum (caps_of p.layout)) + save_weight 1 p.head.count) 0
+        s1 s3 =
+        asks_then wrote (subst (λ (n : ℕ). Asks (save_weight 1 n) 0 s2 s3) count saved) (omega arith)
+        (omega arith) (omega arith) in
+        asks_then grew.asks rest (omega arith) (omega arith) (omega arith)
 
 -- ---- what a fault leaves
 

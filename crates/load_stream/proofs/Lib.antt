@@ -14,3 +14,4 @@ mod PlaceLaws
 mod SaveLaws
 mod SpotLaws
 mod StopLaws
+mod WeightLaws

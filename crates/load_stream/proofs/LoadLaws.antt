@@ -1,8 +1,9 @@
 -- What a load says of the whole input and the file, by what its steps say of what follows the first line.
-use Rattle.std.specs.Prelude.{◌≡◌, ◌⊎◌, ℕ, ◌+◌, ◌≤◌, zero, suc, Bool, List, [], ◌∷◌, ◌++◌, codes, length, Result, Ok, Err, IsTrue, OnOk, refl}
+use Rattle.std.specs.Prelude.{◌≡◌, ◌⊎◌, ℕ, ◌+◌, ◌≤◌, zero, suc, Bool, List, [], ◌∷◌, ◌++◌, codes, length, sum, Result, Ok, Err, IsTrue, OnOk, refl}
 use Rattle.std.proofs.Common.{arith, ap, sym, ◌∙◌, inl, inr, subst, append-nil, append_assoc}
 use Rattle.std.specs.FinMap as fin
 use Rattle.disk_face.specs.Counts.{counted}
+use Rattle.disk_face.specs.Frames.{Asks}
 use Rattle.disk_face.specs.States.{State}
 use Rattle.disk_face.specs.Moments.{Leaves}
 use Rattle.disk_face.proofs.MomentLaws.{Leaves-trans, Leaves-weaken}
@@ -12,7 +13,7 @@ use Rattle.slot_pair.specs.Formats.{IsNoStoreOrEmpty}
 use Rattle.slot_pair.specs.Saves.{save_calls}
 use Rattle.map_model.specs.Maps.{Map, name_cmp}
 use Rattle.map_model.specs.Weights.{Entry}
-use Rattle.segment_layout.specs.Layouts.{caps_of}
+use Rattle.segment_layout.specs.Layouts.{caps_of, divisor_of}
 use Rattle.segment_layout.specs.Shapes.{end_of}
 use Rattle.dump_stream.specs.Dumps.{IsDumpOf, objects_text}
 use Rattle.dump_stream.specs.Heads.{IsHead, head_line, volumes_of_head}
@@ -21,9 +22,10 @@ use Rattle.load_stream.specs.declared.fault.LoadFault.{LoadFault}
 use Rattle.load_stream.specs.declared.fault.LoadFault.TheVariants as why
 use Rattle.load_stream.specs.declared.plan.Plan.{Plan}
 use Rattle.load_stream.specs.Faults.{IsFirstFault, IsLineOrDevice}
-use Rattle.load_stream.specs.Loaded.{AnswersLoad, IsLoadImage, LeavesLoaded, LoadsWhole, OpensDump, TellsFew, TellsTooMany}
+use Rattle.load_stream.specs.Loaded.{AnswersLoad, AsksLoaded, AsksToLoad, IsLoadImage, LeavesLoaded, LoadsWhole, OpensDump, TellsFew, TellsTooMany}
 use Rattle.load_stream.specs.Saved.{IsNoneOrRead, IsPlanFor, LeavesNew, LeavesRead, OpensEmpty, OpensFor, OpensRead, ReadsBody, StopsBody, laid_with}
 use Rattle.load_stream.specs.Steps.{Passed, object_calls, passed}
+use Rattle.load_stream.specs.Weights.{load_weight}
 use Rattle.load_stream.proofs.ImageLaws.{empty_for}
 use Rattle.load_stream.proofs.StopLaws.{lines_are, read_is_dump, sorted_follow, volumes_filled}
 
@@ -142,7 +144,7 @@ module _ (k names : ℕ) (p : Plan) (plan : IsPlanFor k names p)
     file_loaded file (Err why.Source) only leaves = inr leaves
 
   -- a first line stands in front, and there is room for as many names
-  pub tells_few : IsTrue tells → TellsFew names before
+  abbrev pub tells_few : IsTrue tells → TellsFew names before
   tells_few t = record {
     count = p.head.count;
     begins = record {
@@ -154,6 +156,29 @@ module _ (k names : ℕ) (p : Plan) (plan : IsPlanFor k names p)
     };
     few = plan.few;
   }
+
+  -- what was asked is what a load of this input asks
+  asks_to_load : (first now : State) → IsTrue tells
+      → Asks (load_weight p.head.count (sum (caps_of p.layout)))
+      (p.base + end_of (divisor_of p.layout) (caps_of p.layout)) first now
+      → AsksToLoad k names before first now
+  asks_to_load first now t asked = record {
+    tells = tells_few t;
+    asks = subst (λ (x : List ℕ × (ℕ × ℕ)). Asks (load_weight p.head.count (sum x.0))
+        (x.1.0 + end_of x.1.1 x.0) first now)
+        (λ i. (plan.caps i, (plan.base i, plan.divisor i))) asked;
+  }
+
+  pub asks_body : (first now : State) (result : Result Unit LoadFault) → IsTrue tells
+      → Asks (load_weight p.head.count (sum (caps_of p.layout)))
+      (p.base + end_of (divisor_of p.layout) (caps_of p.layout)) first now
+      → AsksLoaded k names before first now result
+  asks_body first now (Ok done) t asked = asks_to_load first now t asked
+  asks_body first now (Err (why.Line n)) t asked = tt
+  asks_body first now (Err (why.TooMany n)) t asked = tt
+  asks_body first now (Err why.NoMemory) t asked = tt
+  asks_body first now (Err why.Disk) t asked = asks_to_load first now t asked
+  asks_body first now (Err why.Source) t asked = tt
 
   -- the map that was read
   dumped : (more : ℕ) (after : List ℕ) (first now : State)
@@ -235,3 +260,17 @@ answers_first U names input fault result is only none many =
     of why.NoMemory only none many = absurd only
     of why.Disk only none many = absurd only
     of why.Source only none many = tt
+
+-- where nothing was asked, none of these faults is the disk's
+pub asks_first : (U : Type 0) (k names : ℕ) (input : List ℕ) (first now : State) (fault : LoadFault)
+    (result : Result Unit LoadFault) → result ≡ Err fault → IsFirstFault {T = U} (Err fault)
+    → AsksLoaded k names input first now result
+asks_first U k names input first now fault result is only =
+    subst (AsksLoaded k names input first now) (sym is) (of fault only)
+  where
+    of : (f : LoadFault) → IsFirstFault {T = U} (Err f) → AsksLoaded k names input first now (Err f)
+    of (why.Line n) only = tt
+    of (why.TooMany n) only = tt
+    of why.NoMemory only = tt
+    of why.Disk only = absurd only
+    of why.Source only = tt

@@ -1,5 +1,5 @@
 -- One object more behind those that were loaded.
-use Rattle.std.specs.Prelude.{◌≡◌, ◌⊎◌, ℕ, ◌+◌, ◌<◌, ◌≤◌, true, List, [], ◌∷◌, ◌++◌, length, map, slice_index, Bool, Option, None, IsTrue, refl}
+use Rattle.std.specs.Prelude.{◌≡◌, ◌⊎◌, ℕ, ◌+◌, ◌<◌, ◌≤◌, true, List, [], ◌∷◌, ◌++◌, length, map, slice_index, sum, Bool, Option, None, IsTrue, refl}
 use Rattle.std.proofs.Common.{arith, ap, sym, ◌∙◌, subst, inl, inr, append-nil, append_assoc, length-append}
 use Rattle.std.proofs.lemmas.Bool.{cases_eq, cases_lt}
 use Rattle.std.proofs.lemmas.Grind.{flat_map-append}
@@ -8,7 +8,9 @@ use Rattle.std.proofs.lemmas.List.Sums.{sum_by-append}
 use Rattle.std.specs.FinMap as fin
 use Rattle.byte_ranges.specs.Ranges.{overwritten}
 use Rattle.disk_face.specs.Counts.{counted}
+use Rattle.disk_face.specs.Frames.{Asks}
 use Rattle.disk_face.specs.States.{State}
+use Rattle.disk_face.proofs.FrameLaws.{asks_nothing, asks_then}
 use Rattle.size_class.specs.Classes.{class_of, width, zero_row}
 use Rattle.size_class.specs.Rows.{cells_of}
 use Rattle.size_class.specs.declared.TheConstants.{SIZE_MAX}
@@ -31,10 +33,12 @@ use Rattle.dump_stream.specs.Loading.{AllFollow, MayFollow, NoneFollows, filled_
 use Rattle.dump_stream.specs.Placing.{IsPlacing, spot_after, spot_at}
 use Rattle.load_stream.specs.declared.plan.Plan.{Plan}
 use Rattle.load_stream.specs.declared.plan.SoFar.{SoFar}
-use Rattle.load_stream.specs.Steps.{LoadsObject, LoadsTo, NoneStands, Passed, StandsNext, StopsIn, object_calls, passed}
+use Rattle.load_stream.specs.Steps.{AsksForOne, HasRoom, LoadsObject, LoadsTo, NoneStands, Passed, StandsNext, StopsIn, object_calls, passed}
+use Rattle.load_stream.specs.Weights.{objects_weight}
 use Rattle.load_stream.proofs.ImageLaws.{no_records, none_filled}
 use Rattle.load_stream.proofs.MapLaws.{objects_read}
 use Rattle.load_stream.proofs.PlaceLaws.{filled_more, last_more, places_more, places_none}
+use Rattle.load_stream.proofs.WeightLaws.{filled_full, filled_total, less_weight, one_weight, total_room}
 
 -- ---- an object that may stand there
 
@@ -164,6 +168,7 @@ loads_none p s tells input d wide empty zero none = record {
   read = λ t. ap (λ (spots : Spots). fin.entries (read_at p.base d.file spots)) empty
       ∙ ap (λ (rs : List Record). fin.entries (map_of p.base d.file rs)) no_records ∙ entries-empty;
   made = λ low. omega (arith, low);
+  asks = asks_then (asks_nothing d) (asks_nothing d) (omega arith) (omega arith) (omega arith);
 }
 
 -- one object more
@@ -220,6 +225,9 @@ module _ (p : Plan) (wide : length (caps_of p.layout) ≡ width) (old new : SoFa
               let empty : length e.1 ≡ 0 = omega (arith, none) in
               omega (arith, low, o.made low, l.made.none empty, more, ap (pieces 65536) empty)
         ];
+    asks = asks_then o.asks l.asks
+        (omega (arith, one_weight n (sum (filled_by es)) (length e.1), filled_total es e))
+        (omega arith) (omega arith);
   }
 
 -- no object more
@@ -246,3 +254,35 @@ loads_count p s x n first now o =
     ∙ ap length o.placing.sizes
     ∙ length-map o.objects (λ (e : Entry). length e.1)
     ∙ o.same_count
+
+-- ---- what they ask
+
+module _ (p : Plan) (wide : length (caps_of p.layout) ≡ width) (s : SoFar) (x : Passed) (n : ℕ)
+    (first a : State) (o : LoadsTo p s x n first a) where
+  -- with one more for which there is room they are within the volumes
+  within : (size : ℕ) → HasRoom (caps_of p.layout) (cells_of s.filled) size
+      → sum (filled_by o.objects) + size ≤ sum (caps_of p.layout)
+  within size room = total_room (caps_of p.layout) (filled_by o.objects) size wide (filled_full o.objects)
+      o.placing.room (subst (λ (f : List ℕ). HasRoom (caps_of p.layout) f size) o.filled room)
+
+  -- those so far
+  pub asks_all : (count : ℕ) → n ≤ count → Asks (objects_weight count (sum (caps_of p.layout))) 0 first a
+  asks_all count upto =
+      let low = within 0 (λ some. absurd (omega (arith, some))) in
+      asks_then o.asks (asks_nothing a) (omega (
+        arith,
+        less_weight n count (sum (filled_by o.objects)) (sum (caps_of p.layout)) upto (omega (arith, low)),
+      )) (omega arith) (omega arith)
+
+  -- those so far and what one more asks, where one is due
+  pub asks_due : (count : ℕ) (b : State) → n < count
+      → AsksForOne (caps_of p.layout) (cells_of s.filled) a b
+      → Asks (objects_weight count (sum (caps_of p.layout))) 0 first b
+  asks_due count b due one =
+      let low = within one.size one.room in
+      asks_then o.asks one.asks (omega (
+        arith,
+        one_weight n (sum (filled_by o.objects)) one.size,
+        less_weight (n + 1) count (sum (filled_by o.objects) + one.size) (sum (caps_of p.layout))
+            (omega (arith, due)) low,
+      )) (omega arith) (omega arith)

@@ -4,3 +4,4 @@ pub mod Images
 pub mod Loaded
 pub mod Saved
 pub mod Steps
+pub mod Weights

@@ -1,7 +1,8 @@
 -- What a load answers of an input, and what the file and its images are then.
-use Rattle.std.specs.Prelude.{◌≡◌, ◌⊎◌, ◌<◌, ◌≤◌, ℕ, ◌+◌, zero, suc, List, [], Result, Ok, Err, IsTrue, OnOk, length}
+use Rattle.std.specs.Prelude.{◌≡◌, ◌⊎◌, ◌<◌, ◌≤◌, ℕ, ◌+◌, zero, suc, List, [], Result, Ok, Err, IsTrue, OnOk, length, sum}
 use Rattle.std.specs.FinMap as fin
 use Rattle.disk_face.specs.Counts.{counted}
+use Rattle.disk_face.specs.Frames.{Asks}
 use Rattle.disk_face.specs.Moments.{Leaves, Only, Rests}
 use Rattle.disk_face.specs.States.{State}
 use Rattle.size_class.specs.declared.TheConstants.{CLASSES, SIZE_MAX}
@@ -10,6 +11,7 @@ use Rattle.slot_pair.specs.Formats.{IsNoStore}
 use Rattle.slot_pair.specs.Saves.{save_calls}
 use Rattle.map_model.specs.Maps.{Map}
 use Rattle.segment_layout.specs.Books.{book_end}
+use Rattle.segment_layout.specs.Shapes.{end_of}
 use Rattle.dump_stream.specs.Dumps.{IsDumpOf}
 use Rattle.dump_stream.specs.Loading.{BeginsNone, BeginsWith, StopsAt}
 use Rattle.dump_stream.specs.Placing.{laid_book}
@@ -17,6 +19,7 @@ use Rattle.load_stream.specs.declared.fault.LoadFault.{LoadFault}
 use Rattle.load_stream.specs.declared.fault.LoadFault.TheVariants as why
 use Rattle.load_stream.specs.Saved.{OpensEmpty, OpensFor}
 use Rattle.load_stream.specs.Steps.{Passed, object_calls}
+use Rattle.load_stream.specs.Weights.{load_weight}
 
 -- ---- the input
 
@@ -66,6 +69,23 @@ pub record LoadsWhole (names : ℕ) (x : Passed) (first now : State) : Type 0 wh
   pub dump : IsTrue x.tells → IsDumpOf CLASSES SIZE_MAX objects x.before
   pub ended : IsTrue x.tells → x.left ≡ []
   pub made : now.turn ≡ counted first.turn (load_calls objects)
+
+-- A first line stands in front, and there is room for as many names as it tells. At most so much was asked as
+-- a load of so many objects asks that fill the volumes of that line, and no length greater than that of the
+-- file it would leave.
+pub record AsksToLoad (k names : ℕ) (input : List ℕ) (first now : State) : Type 0 where
+  pub tells : TellsFew names input
+  pub asks : Asks (load_weight tells.count (sum tells.begins.volumes))
+      (head_len names + end_of k tells.begins.volumes) first now
+
+-- so much was asked at most by a load that is done, or for which the disk failed
+abbrev pub AsksLoaded : ℕ → ℕ → List ℕ → State → State → Result Unit LoadFault → Type 0
+AsksLoaded k names input first now (Ok done) = AsksToLoad k names input first now
+AsksLoaded k names input first now (Err (why.Line n)) = Unit {0}
+AsksLoaded k names input first now (Err (why.TooMany n)) = Unit {0}
+AsksLoaded k names input first now (Err why.NoMemory) = Unit {0}
+AsksLoaded k names input first now (Err why.Disk) = AsksToLoad k names input first now
+AsksLoaded k names input first now (Err why.Source) = Unit {0}
 
 -- an answer that says what the input is: all but those for want of memory or for a device
 abbrev pub Judges : Result Unit LoadFault → Type 0

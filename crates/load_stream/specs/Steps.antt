@@ -1,8 +1,9 @@
 -- The steps of a load: the next object, where it goes, and what was written of it.
-use Rattle.std.specs.Prelude.{◌≡◌, ℕ, ◌+◌, ◌<◌, ◌≤◌, ◌^◌, true, Bool, List, ◌∷◌, ◌++◌, [], Option, Some, None, IsTrue, length, slice_index, sum_by, vec_len}
+use Rattle.std.specs.Prelude.{◌≡◌, ℕ, ◌+◌, ◌<◌, ◌≤◌, ◌^◌, true, Bool, List, ◌∷◌, ◌++◌, [], Option, Some, None, IsTrue, length, slice_index, sum, sum_by, vec_len}
 use Rattle.std.specs.FinMap as fin
 use Rattle.byte_ranges.specs.Ranges.{overwritten}
 use Rattle.disk_face.specs.Counts.{counted}
+use Rattle.disk_face.specs.Frames.{Asks}
 use Rattle.disk_face.specs.States.{State}
 use Rattle.size_class.specs.Classes.{class_of, zero_row}
 use Rattle.size_class.specs.Rows.{cells_of}
@@ -24,6 +25,7 @@ use Rattle.dump_stream.specs.Dumping.{AreSizes}
 use Rattle.dump_stream.specs.Placing.{IsPlacing, spot_at}
 use Rattle.load_stream.specs.declared.plan.Plan.{Plan}
 use Rattle.load_stream.specs.declared.plan.SoFar.{SoFar}
+use Rattle.load_stream.specs.Weights.{objects_weight, write_weight}
 
 -- with an object of this size, its class has no more bytes than its volume
 abbrev pub HasRoom : List ℕ → List ℕ → ℕ → Type 0
@@ -103,6 +105,13 @@ pub record LoadsObject (p : Plan) (old new : SoFar) (x : Passed) (first now : St
       → cells_of old.filled ≡ volumes_of_sizes sizes
       → cells_of new.filled ≡ volumes_of_sizes (sizes ++ length object.1 ∷ [])
   pub made : HasMade first.turn now.turn 65536 (length object.1) (length object.1)
+  pub asks : Asks (write_weight 65536 (length object.1)) 0 first now
+
+-- At most so much was asked as the writes of one object ask, of a size for which its class has room.
+pub record AsksForOne (volumes filled : List ℕ) (first now : State) : Type 0 where
+  pub size : ℕ
+  pub room : HasRoom volumes filled size
+  pub asks : Asks (write_weight 65536 size) 0 first now
 
 -- ---- the objects so far
 
@@ -122,6 +131,7 @@ pub record LoadsTo (p : Plan) (now : SoFar) (x : Passed) (count : ℕ) (first st
   pub whole : IsTrue x.tells → x.before ≡ objects_text objects ++ x.left
   pub read : IsTrue first.tells → fin.entries (read_at p.base state.file now.load.now) ≡ objects
   pub made : first.turn < 2 ^ 64 → state.turn ≡ counted first.turn (object_calls objects)
+  pub asks : Asks (objects_weight count (sum (filled_by objects))) 0 first state
 
 -- All objects that the first line told were read, they fill each class, and nothing is left of the input.
 pub record LoadsAll (p : Plan) (now : SoFar) (x : Passed) (first state : State) : Type 0 where

@@ -1,8 +1,8 @@
 //! Writing the bytes of an object as they come.
 ghost use Rattle.std.specs.Prelude.{◌≡◌, ◌≢◌, ◌+◌, ◌^◌, ◌<◌, ◌≤◌, ◌++◌, Err, Ok, IsTrue, false, length, true};
-ghost use Rattle.disk_face.specs.{Counts.{counted}, Writes.{WritesWithin}};
+ghost use Rattle.disk_face.specs.{Counts.{counted}, Frames.{Asks, call_weight}, Writes.{WritesWithin}};
 ghost use Rattle.data_area.specs.Pieces.{HasMade, pieces};
-ghost use Rattle.load_stream.specs.{declared.fault.LoadFault.{LoadFault}, Causes.{HasCauses}, Faults.{IsDeviceFault}, Steps.{WritesObject}};
+ghost use Rattle.load_stream.specs.{declared.fault.LoadFault.{LoadFault}, Causes.{HasCauses}, Faults.{IsDeviceFault}, Steps.{WritesObject}, Weights.{write_weight}};
 
 use crate::LoadFault;
 use ask_lines::{Ahead, fill};
@@ -32,6 +32,7 @@ pub(crate) fn write_body<D: Disk, I: Source>(
     ensures made { result ≡ Ok true → HasMade (D.state disk.old).turn (D.state disk.new).turn
         (length buf.old) size size }
     ensures most { (D.state disk.new).turn ≤ (D.state disk.old).turn + pieces (length buf.old) size }
+    ensures asks { Asks (write_weight (length buf.old) size) 0 (D.state disk.old) (D.state disk.new) }
     ensures causes { HasCauses (D.state disk.old) (D.state disk.new) (I.state input.old)
         (I.state input.new) result }
     ensures room { length buf.new ≡ length buf.old }
@@ -69,6 +70,7 @@ fn write_piece<D: Disk, I: Source>(
     ensures writes { WritesWithin at (length piece.old) (D.state disk.old) (D.state disk.new) }
     ensures made { result ≡ Ok true → (D.state disk.new).turn ≡ counted (D.state disk.old).turn 1 }
     ensures most { (D.state disk.new).turn ≤ (D.state disk.old).turn + 1 }
+    ensures asks { Asks (call_weight + length piece.old) 0 (D.state disk.old) (D.state disk.new) }
     ensures causes { HasCauses (D.state disk.old) (D.state disk.new) (I.state input.old)
         (I.state input.new) result }
     ensures room { length piece.new ≡ length piece.old }

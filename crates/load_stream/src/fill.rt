@@ -1,13 +1,13 @@
 //! Filling a file that was formatted with the objects of a dump.
-ghost use Rattle.std.specs.Prelude.{◌≡◌, ◌⊎◌, ◌+◌, ◌^◌, ◌<◌, ◌≤◌, ◌++◌, ℕ, Err, IfErr, IsTrue, OnOk};
+ghost use Rattle.std.specs.Prelude.{◌≡◌, ◌⊎◌, ◌+◌, ◌^◌, ◌<◌, ◌≤◌, ◌++◌, ℕ, Err, IfErr, IsTrue, OnOk, sum};
 ghost use Rattle.byte_ranges.specs.Ranges.{resized};
-ghost use Rattle.disk_face.specs.{Frames.{AfterLength}, Moments.{Leaves, Rests}, Writes.{KeepsDisk, WritesWithin}};
+ghost use Rattle.disk_face.specs.{Frames.{AfterLength, Asks}, Moments.{Leaves, Rests}, Writes.{KeepsDisk, WritesWithin}};
 ghost use Rattle.slot_codec.specs.Readable.{IsSuperBlock};
 ghost use Rattle.slot_pair.specs.{Finding.{HasDiskCause}, Formats.{HasFirstTable}};
 ghost use Rattle.segment_layout.specs.{Layouts.{caps_of, divisor_of}, Shapes.{end_of}};
 ghost use Rattle.dump_stream.specs.Heads.{volumes_of_head};
 ghost use Rattle.load_stream.specs.declared.fault.LoadFault.TheVariants as why;
-ghost use Rattle.load_stream.specs.{Causes.{HasCauses}, Faults.{IsLineOrDevice}, Saved.{IsPlanFor, LeavesRead, OpensEmpty, OpensRead, ReadsBody, StopsBody}, Steps.{FitsFile, IsStart, KeepsRoom, LoadsAll, passed}};
+ghost use Rattle.load_stream.specs.{Causes.{HasCauses}, Faults.{IsLineOrDevice}, Saved.{IsPlanFor, LeavesRead, OpensEmpty, OpensRead, ReadsBody, StopsBody}, Steps.{FitsFile, IsStart, KeepsRoom, LoadsAll, passed}, Weights.{fill_weight, objects_weight}};
 
 use crate::LoadFault;
 use crate::end::is_whole;
@@ -53,6 +53,9 @@ pub(crate) fn fill_formatted<D: Disk, I: Source>(
     ensures causes { HasCauses (D.state disk.old) (D.state disk.new) (I.state input.old)
         (I.state input.new) result }
     ensures frame { KeepsDisk (D.state disk.old) (D.state disk.new) }
+    ensures asks { Asks (fill_weight plan.now.head.count (sum (caps_of plan.now.layout)))
+        (plan.now.base + end_of (divisor_of plan.now.layout) (caps_of plan.now.layout))
+        (D.state disk.old) (D.state disk.new) }
 {
     grow(disk, plan)?;
     let mut so_far = so_far;
@@ -111,6 +114,8 @@ fn load_all<D: Disk, I: Source>(
     ensures only { IsLineOrDevice result }
     ensures writes { WritesWithin plan.now.base (end_of (divisor_of plan.now.layout)
         (caps_of plan.now.layout)) (D.state disk.old) (D.state disk.new) }
+    ensures asks { Asks (objects_weight plan.now.head.count (sum (caps_of plan.now.layout))) 0
+        (D.state disk.old) (D.state disk.new) }
     ensures causes { HasCauses (D.state disk.old) (D.state disk.new) (I.state input.old)
         (I.state input.new) result }
 {

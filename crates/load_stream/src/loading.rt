@@ -1,10 +1,11 @@
 //! Loading a dump into a file that is empty.
-ghost use Rattle.std.specs.Prelude.{◌≡◌, ◌++◌, ℕ, [], Err, IsTrue, OnOk, length};
-ghost use Rattle.disk_face.specs.{Frames.{Unchanged}, Moments.{Leaves, Only, Rests}, Writes.{KeepsDisk}};
+ghost use Rattle.std.specs.Prelude.{◌≡◌, ◌+◌, ◌++◌, ℕ, [], Err, IsTrue, OnOk, length, sum};
+ghost use Rattle.disk_face.specs.{Frames.{Asks, Unchanged}, Moments.{Leaves, Only, Rests}, Writes.{KeepsDisk}};
 ghost use Rattle.slot_codec.specs.Readable.{IsSuperBlock};
 ghost use Rattle.slot_pair.specs.Formats.{block_for};
+ghost use Rattle.segment_layout.specs.{Layouts.{caps_of, divisor_of}, Shapes.{end_of}};
 ghost use Rattle.load_stream.specs.declared.fault.LoadFault.TheVariants as why;
-ghost use Rattle.load_stream.specs.{Causes.{HasCauses}, Faults.{IsEarly, IsLineOrDevice}, Loaded.{AnswersLoad, LeavesLoad, LoadsWhole}, Saved.{IsNoneOrRead, IsPlanFor, LeavesNew, ReadsBody, StopsBody}, Steps.{IsStart, passed}};
+ghost use Rattle.load_stream.specs.{Causes.{HasCauses}, Faults.{IsEarly, IsLineOrDevice}, Loaded.{AnswersLoad, AsksLoaded, LeavesLoad, LoadsWhole}, Saved.{IsNoneOrRead, IsPlanFor, LeavesNew, ReadsBody, StopsBody}, Steps.{IsStart, passed}, Weights.{load_weight}};
 
 use crate::LoadFault;
 use crate::begin::{read_plan, start};
@@ -43,6 +44,8 @@ pub fn load<D: Disk, I: Source>(
     ensures causes { HasCauses (D.state disk.old) (D.state disk.new) (I.state input.old)
         (I.state input.new) result }
     ensures frame { KeepsDisk (D.state disk.old) (D.state disk.new) }
+    ensures asks { IsTrue (I.state input.old).tells
+        → AsksLoaded k names (I.state input.old).left (D.state disk.old) (D.state disk.new) result }
 {
     let mut ahead = Ahead::new();
     let plan = read_plan(&mut ahead, input, k, names)?;
@@ -89,6 +92,9 @@ fn fill_new<D: Disk, I: Source>(
     ensures causes { HasCauses (D.state disk.old) (D.state disk.new) (I.state input.old)
         (I.state input.new) result }
     ensures frame { KeepsDisk (D.state disk.old) (D.state disk.new) }
+    ensures asks { Asks (load_weight plan.now.head.count (sum (caps_of plan.now.layout)))
+        (plan.now.base + end_of (divisor_of plan.now.layout) (caps_of plan.now.layout))
+        (D.state disk.old) (D.state disk.new) }
 {
     match SlotPair::format(disk, block.k, block.names) {
         Ok(()) => fill_formatted(disk, block, plan, so_far, ahead, input),

@@ -2,7 +2,7 @@
 ghost use Rattle.std.specs.Prelude.{◌≡◌, ◌∷◌, [], ◌+◌, ◌^◌, ◌<◌, ◌≤◌, ◌++◌, ℕ, List, Some, Ok, IsTrue, false, length, option_copied, true, vec_len};
 ghost use Rattle.std.specs.FinMap as fin;
 ghost use Rattle.std.specs.declared.cmp.Ordering.TheVariants.{Less};
-ghost use Rattle.disk_face.specs.{Counts.{HasCause}, Writes.{WritesWithin}};
+ghost use Rattle.disk_face.specs.{Counts.{HasCause}, Frames.{Asks}, Writes.{WritesWithin}};
 ghost use Rattle.size_class.specs.{Rows.{cells_of}, declared.TheConstants.{SIZE_MAX}};
 ghost use Rattle.slot_codec.specs.{Choice.{rises}, Names.{IsName, name_cmp}};
 ghost use Rattle.segment_layout.specs.{Books.{volumes_of_sizes}, Layouts.{caps_of, divisor_of}, Shapes.{end_of}};
@@ -10,7 +10,7 @@ ghost use Rattle.extent_table.specs.{declared.spot.Spot.{Spot}, Extents.{IsInRan
 ghost use Rattle.placement_model.specs.Orders.{IsUpTo};
 ghost use Rattle.data_area.specs.Pieces.{HasMade, pieces};
 ghost use Rattle.dump_stream.specs.Dumping.{AreSizes};
-ghost use Rattle.load_stream.specs.{Causes.{HasCauses}, Faults.{IsDeviceFault}, Steps.{FitsFile, HasRoomForOne, KeepsRoom, LoadsObject, NoneStands, WritesObject, passed}};
+ghost use Rattle.load_stream.specs.{Causes.{HasCauses}, Faults.{IsDeviceFault}, Steps.{AsksForOne, FitsFile, HasRoomForOne, KeepsRoom, LoadsObject, NoneStands, WritesObject, passed}, Weights.{write_weight}};
 
 use crate::LoadFault;
 use crate::body::write_body;
@@ -47,6 +47,7 @@ pub(crate) fn write_text<D: Disk, I: Source>(
     ensures made { result ≡ Ok true → HasMade (D.state disk.old).turn (D.state disk.new).turn
         (length buf.old) size size }
     ensures most { (D.state disk.new).turn ≤ (D.state disk.old).turn + pieces (length buf.old) size }
+    ensures asks { Asks (write_weight (length buf.old) size) 0 (D.state disk.old) (D.state disk.new) }
     ensures causes { HasCauses (D.state disk.old) (D.state disk.new) (I.state input.old)
         (I.state input.new) result }
     ensures room { length buf.new ≡ length buf.old }
@@ -96,6 +97,8 @@ pub(crate) fn load_object<D: Disk, I: Source>(
     ensures device { IsDeviceFault result }
     ensures writes { WritesWithin plan.now.base (end_of (divisor_of plan.now.layout)
         (caps_of plan.now.layout)) (D.state disk.old) (D.state disk.new) }
+    ensures asks { AsksForOne (caps_of plan.now.layout) (cells_of so_far.old.filled)
+        (D.state disk.old) (D.state disk.new) }
     ensures causes { HasCauses (D.state disk.old) (D.state disk.new) (I.state input.old)
         (I.state input.new) result }
 {

@@ -1,11 +1,11 @@
 //! Loading the objects of a dump, one after another.
-ghost use Rattle.std.specs.Prelude.{◌≡◌, ◌+◌, ◌<◌, ◌≤◌, ◌++◌, Err, None, IsTrue, OnOk, ℕ, vec_len};
+ghost use Rattle.std.specs.Prelude.{◌≡◌, ◌+◌, ◌<◌, ◌≤◌, ◌++◌, Err, None, IsTrue, OnOk, ℕ, sum, vec_len};
 ghost use Rattle.std.specs.FinMap as fin;
-ghost use Rattle.disk_face.specs.Writes.{WritesWithin};
+ghost use Rattle.disk_face.specs.{Frames.{Asks}, Writes.{WritesWithin}};
 ghost use Rattle.size_class.specs.{Classes.{zero_row}, Rows.{cells_of}};
 ghost use Rattle.segment_layout.specs.{Layouts.{caps_of, divisor_of}, Shapes.{end_of}};
 ghost use Rattle.load_stream.specs.declared.fault.LoadFault.TheVariants as why;
-ghost use Rattle.load_stream.specs.{Causes.{HasCauses}, Faults.{IsLineOrDevice}, Steps.{FitsFile, IsStart, KeepsRoom, LoadsTo, StopsIn, passed}};
+ghost use Rattle.load_stream.specs.{Causes.{HasCauses}, Faults.{IsLineOrDevice}, Steps.{FitsFile, IsStart, KeepsRoom, LoadsTo, StopsIn, passed}, Weights.{objects_weight}};
 
 use crate::LoadFault;
 use crate::object::load_object;
@@ -35,6 +35,8 @@ pub(crate) fn load_objects<D: Disk, I: Source>(
     ensures only { IsLineOrDevice result }
     ensures writes { WritesWithin plan.now.base (end_of (divisor_of plan.now.layout)
         (caps_of plan.now.layout)) (D.state disk.old) (D.state disk.new) }
+    ensures asks { Asks (objects_weight plan.now.head.count (sum (caps_of plan.now.layout))) 0
+        (D.state disk.old) (D.state disk.new) }
     ensures causes { HasCauses (D.state disk.old) (D.state disk.new) (I.state input.old)
         (I.state input.new) result }
 {

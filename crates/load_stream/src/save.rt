@@ -1,10 +1,10 @@
 //! The save that ends a load.
 ghost use Rattle.std.specs.Prelude.{◌≡◌, ◌≤◌, ◌+◌, ◌<◌, ◌^◌, ℕ, List, Ok, IsTrue, OnOk, length};
 ghost use Rattle.std.specs.FinMap as fin;
-ghost use Rattle.disk_face.specs.{Frames.{Calls}, Moments.{Leaves, Rests}, Writes.{KeepsDisk}};
+ghost use Rattle.disk_face.specs.{Frames.{Asks, Calls}, Moments.{Leaves, Rests}, Writes.{KeepsDisk}};
 ghost use Rattle.size_class.specs.Classes.{zero_grid};
 ghost use Rattle.slot_codec.specs.{Choice.{slot_in_use}, Readable.{IsSuperBlock}};
-ghost use Rattle.slot_pair.specs.{Formats.{block_for, first_in_use}, Saves.{save_calls}};
+ghost use Rattle.slot_pair.specs.{Formats.{block_for, first_in_use}, Saves.{save_calls, save_weight}};
 ghost use Rattle.segment_layout.specs.Layouts.{caps_of, grid_of};
 ghost use Rattle.extent_table.specs.Extents.{IsTable, rolled};
 ghost use Rattle.load_stream.specs.Saved.{IsEmptyLike, IsEmptyOrLaid, IsLaidBeside, OpensLaid};
@@ -51,6 +51,7 @@ pub(crate) fn save_loaded<D: Disk>(
     ensures calls { Calls (save_calls (length (rolled table.now.now table.now.digests)))
         (D.state disk.old) (D.state disk.new) result }
     ensures frame { KeepsDisk (D.state disk.old) (D.state disk.new) }
+    ensures asks { Asks (save_weight 1 (fin.len table.now.now)) 0 (D.state disk.old) (D.state disk.new) }
 {
     let header = settled_header(&plan.layout, 1);
     let mut pair = SlotPair::of(&Found {

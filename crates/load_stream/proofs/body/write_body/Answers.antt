@@ -5,6 +5,7 @@ use Rattle.std.specs.Prelude.{◌⊎◌, take}
 use Rattle.disk_face.proofs.WriteLaws.{within-none, within-trans, within-wider}
 use Rattle.data_area.proofs.PieceLaws.{made_more, made_none}
 use Rattle.load_stream.proofs.BodyLaws.{body_as, body_long, body_more, body_none}
+use Rattle.load_stream.proofs.WeightLaws.{piece_asked, piece_most, piece_none}
 use Rattle.load_stream.proofs.body.write_body.Goals as goal
 
 pub pieces-init : goal.pieces-init
@@ -15,6 +16,7 @@ pieces-init g c =
       object = body_none _ c.args.at _ old;
       writes = within-none c.args.at c.args.size old c.requires.ready;
       made = made_none old.turn (length c.args.buf.now) c.args.size c.requires.some;
+      asks = piece_none (length c.args.buf.now) c.requires.some old;
       calm = refl;
       source_calm = refl;
       told = refl;
@@ -74,6 +76,10 @@ pieces-preserved g c =
       made = made_more old.turn (state c.pieces.disk).turn (state c.write_piece.new.disk).turn
           (length c.args.buf.now) c.args.size done n (omega arith) (omega arith) (omega arith)
           (omega (arith, was.room)) last was.made (c.in_ok-full.ensures.made is);
+      asks = piece_asked old.turn (state c.pieces.disk).turn (length c.args.buf.now) c.args.size done n
+          (length (take n c.pieces.buf)) old (state c.pieces.disk) (state c.write_piece.new.disk)
+          (omega arith) (omega arith) (omega (arith, was.room)) len was.made was.asks
+          c.write_piece.ensures.asks;
       calm = c.in_ok-full.ensures.causes.disk_cause.calm (λ is. absurd (cc)) ∙ was.calm;
       source_calm = c.in_ok-full.ensures.causes.source_cause.calm (λ is. absurd (cc)) ∙ was.source_calm;
       told = c.in_ok-full.ensures.causes.source_cause.told ∙ was.told;
@@ -95,3 +101,36 @@ returns-then-not-full-clause-writes g c =
     let upto : c.pieces.done + n ≤ c.args.size = omega arith in
     within-trans c.pieces.invariant.writes
     (within-wider c.args.at c.args.size (omega arith) (omega (arith, upto, len)) c.write_piece.ensures.writes)
+
+pub returns-in_err-full-clause-asks : goal.returns-in_err-full-clause-asks
+returns-in_err-full-clause-asks g c =
+    let state = g.D.Disk.state in
+    let old = state c.args.disk.now in
+    let was = c.pieces.invariant in
+    let n : ℕ = c.min-n.result in
+    let len : length (take n c.pieces.buf) ≡ n = length-take-le n c.pieces.buf (omega arith) in
+    piece_most (length c.args.buf.now) c.args.size (c.pieces.done + n) old (state c.write_piece.new.disk)
+    c.requires.some (omega arith)
+    (piece_asked old.turn (state c.pieces.disk).turn (length c.args.buf.now) c.args.size c.pieces.done n
+    (length (take n c.pieces.buf)) old (state c.pieces.disk) (state c.write_piece.new.disk) (omega arith)
+    (omega arith) (omega (arith, was.room)) len was.made was.asks c.write_piece.ensures.asks)
+
+pub returns-then-not-full-clause-asks : goal.returns-then-not-full-clause-asks
+returns-then-not-full-clause-asks g c =
+    let state = g.D.Disk.state in
+    let old = state c.args.disk.now in
+    let was = c.pieces.invariant in
+    let n : ℕ = c.min-n.result in
+    let len : length (take n c.pieces.buf) ≡ n = length-take-le n c.pieces.buf (omega arith) in
+    piece_most (length c.args.buf.now) c.args.size (c.pieces.done + n) old (state c.write_piece.new.disk)
+    c.requires.some (omega arith)
+    (piece_asked old.turn (state c.pieces.disk).turn (length c.args.buf.now) c.args.size c.pieces.done n
+    (length (take n c.pieces.buf)) old (state c.pieces.disk) (state c.write_piece.new.disk) (omega arith)
+    (omega arith) (omega (arith, was.room)) len was.made was.asks c.write_piece.ensures.asks)
+
+pub returns-clause-asks : goal.returns-clause-asks
+returns-clause-asks g c =
+    let state = g.D.Disk.state in
+    let was = c.pieces.invariant in
+    piece_most (length c.args.buf.now) c.args.size c.pieces.done (state c.args.disk.now) (state c.pieces.disk)
+    c.requires.some was.upto was.asks

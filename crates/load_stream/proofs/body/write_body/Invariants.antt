@@ -1,7 +1,9 @@
 use Rattle.std.proofs.Common.{◌≡◌, ◌-◌, ◌++◌, ◌≤◌, IsTrue, length}
+use Rattle.disk_face.specs.Frames.{Asks}
 use Rattle.disk_face.specs.Writes.{WritesWithin}
 use Rattle.data_area.specs.Pieces.{HasMade}
 use Rattle.load_stream.specs.Steps.{WritesObject}
+use Rattle.load_stream.specs.Weights.{write_weight}
 use Rattle.load_stream.proofs.body.write_body.Given as goal
 
 abbrev pub invariant-pieces : goal.invariant-pieces
@@ -12,6 +14,7 @@ invariant-pieces g l = record {
       (g.D.Disk.state l.fn.disk) (g.D.Disk.state l.disk);
   writes : WritesWithin l.at l.size (g.D.Disk.state l.fn.disk) (g.D.Disk.state l.disk);
   made : HasMade (g.D.Disk.state l.fn.disk).turn (g.D.Disk.state l.disk).turn (length l.fn.buf) l.size l.done;
+  asks : Asks (write_weight (length l.fn.buf) l.done) 0 (g.D.Disk.state l.fn.disk) (g.D.Disk.state l.disk);
   calm : (g.D.Disk.state l.disk).faults ≡ (g.D.Disk.state l.fn.disk).faults;
   source_calm : (g.I.Source.state l.input).faults ≡ (g.I.Source.state l.fn.input).faults;
   told : (g.I.Source.state l.input).tells ≡ (g.I.Source.state l.fn.input).tells;

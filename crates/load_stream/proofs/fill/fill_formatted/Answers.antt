@@ -5,7 +5,7 @@ use Rattle.segment_layout.specs.Layouts.{caps_of, divisor_of}
 use Rattle.segment_layout.specs.Shapes.{end_of}
 use Rattle.load_stream.specs.Steps.{passed}
 use Rattle.load_stream.proofs.CauseLaws.{causes_behind}
-use Rattle.load_stream.proofs.FillLaws.{IsFilled, filled, filled_file, filled_left, grown_file, grown_left, grown_of, leaves_empty, reads_body, saved_beside, saved_either, saved_left, saved_like, saved_read, saved_told}
+use Rattle.load_stream.proofs.FillLaws.{IsFilled, filled, filled_asks, filled_file, filled_left, grown_asks, grown_file, grown_left, grown_of, leaves_empty, reads_body, saved_asks, saved_beside, saved_either, saved_left, saved_like, saved_read, saved_told}
 use Rattle.load_stream.proofs.fill.fill_formatted.Goals as goal
 
 pub returns-in_err-grow-clause-file : goal.returns-in_err-grow-clause-file
@@ -207,3 +207,29 @@ pub returns-clause-causes : goal.returns-clause-causes
 returns-clause-causes g c =
     causes_behind (c.grow.ensures.cause.calm (search rules)) (search rules) (search rules)
     c.load_all.ensures.causes c.save_loaded.ensures.calls.cause (search rules) (search rules) (search rules)
+
+pub returns-in_err-grow-clause-asks : goal.returns-in_err-grow-clause-asks
+returns-in_err-grow-clause-asks g c = grown_asks c.args.plan.now (g.D.Disk.state c.args.disk.now)
+    (g.D.Disk.state c.grow.new.disk) c.grow.ensures.frame
+
+pub returns-in_err-load_all-clause-asks : goal.returns-in_err-load_all-clause-asks
+returns-in_err-load_all-clause-asks g c =
+    let s = g.D.Disk.state in
+    filled_asks c.args.plan.now (s c.args.disk.now) (s c.grow.new.disk) c.grow.ensures.frame
+    (s c.load_all.new.disk) c.load_all.ensures.asks
+
+pub returns-in-Ok-clause-asks : goal.returns-in-Ok-clause-asks
+returns-in-Ok-clause-asks g c =
+    let s = g.D.Disk.state in
+    saved_asks c.args.plan.now (s c.args.disk.now) (s c.grow.new.disk) c.grow.ensures.frame
+    (s c.load_all.new.disk) c.load_all.ensures.asks c.load_all.new.so_far _ c.into_table-table.result
+    (s c.save_loaded.new.disk) c.in_ok-load_all.ensures.loaded c.into_table-table.ensures
+    c.save_loaded.ensures.asks
+
+pub returns-clause-asks : goal.returns-clause-asks
+returns-clause-asks g c =
+    let s = g.D.Disk.state in
+    saved_asks c.args.plan.now (s c.args.disk.now) (s c.grow.new.disk) c.grow.ensures.frame
+    (s c.load_all.new.disk) c.load_all.ensures.asks c.load_all.new.so_far _ c.into_table-table.result
+    (s c.save_loaded.new.disk) c.in_ok-load_all.ensures.loaded c.into_table-table.ensures
+    c.save_loaded.ensures.asks

@@ -1,4 +1,5 @@
-use Rattle.std.proofs.Common.{◌++◌, IsTrue, subst, sym}
+use Rattle.std.proofs.Common.{◌++◌, IsTrue, arith, subst, sym}
+use Rattle.disk_face.proofs.FrameLaws.{asks_nothing, asks_then}
 use Rattle.disk_face.proofs.MomentLaws.{Leaves-weaken}
 use Rattle.load_stream.specs.Steps.{passed}
 use Rattle.load_stream.proofs.LoadLaws.{formatted_left, leaves_new, none_or_empty, reads_new}
@@ -47,3 +48,12 @@ returns-in-Ok-clause-read g c =
     (s c.format.new.disk)
     (s c.fill_formatted.new.disk) c.fill_formatted.result c.in-Ok.ensures.calls.all
     c.fill_formatted.ensures.read
+
+pub returns-in-Ok-clause-asks : goal.returns-in-Ok-clause-asks
+returns-in-Ok-clause-asks g c = asks_then c.format.ensures.asks c.fill_formatted.ensures.asks
+    (omega arith) (omega (arith, c.requires.plan.base)) (omega arith)
+
+pub returns-in-Err-clause-asks : goal.returns-in-Err-clause-asks
+returns-in-Err-clause-asks g c = asks_then c.format.ensures.asks
+    (asks_nothing (g.D.Disk.state c.format.new.disk)) (omega arith) (omega (arith, c.requires.plan.base))
+    (omega arith)

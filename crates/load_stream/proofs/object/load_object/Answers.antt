@@ -1,6 +1,7 @@
 use Rattle.std.proofs.Common.{◌≡◌, ◌+◌, ◌∙◌, ◌++◌, ◌∷◌, [], Ok, true, IsTrue, List, ℕ, length, Option, arith, rules, ap, subst, sym, refl}
 use Rattle.std.specs.FinMap as fin
 use Rattle.byte_ranges.specs.Ranges.{overwritten}
+use Rattle.disk_face.specs.Frames.{Asks}
 use Rattle.size_class.specs.Rows.{cells_of}
 use Rattle.segment_layout.specs.Books.{volumes_of_sizes}
 use Rattle.segment_layout.specs.Layouts.{caps_of, divisor_of}
@@ -11,8 +12,10 @@ use Rattle.ask_text.specs.declared.ask.Ask.TheVariants as line
 use Rattle.placement_model.proofs.OrderLaws.{behind_all}
 use Rattle.dump_stream.specs.Placing.{spot_at}
 use Rattle.load_stream.specs.Steps.{StandsNext}
+use Rattle.load_stream.specs.Weights.{write_weight}
 use Rattle.load_stream.proofs.ObjectLaws.{none_fits, none_whole, whole_text}
 use Rattle.load_stream.proofs.SpotLaws.{ends_in, written_in}
+use Rattle.load_stream.proofs.WeightLaws.{asks_none, asks_one}
 use Rattle.load_stream.proofs.object.load_object.Goals as goal
 
 pub returns-in_default-found-clause-none : goal.returns-in_default-found-clause-none
@@ -114,4 +117,41 @@ returns-clause-object g c is =
           (g.D.Disk.state c.write_text.new.disk).turn x.0 x.1 x.1)
           (λ i. ((c.deref_mut.ensures.len ∙ c.requires.so_far.buf) i, (sym w.long) i))
           (c.in_ok-whole.ensures.made whole);
+      asks = subst (λ (x : ℕ × ℕ). Asks (write_weight x.0 x.1) 0 (g.D.Disk.state c.args.disk.now)
+          (g.D.Disk.state c.write_text.new.disk))
+          (λ i. ((c.deref_mut.ensures.len ∙ c.requires.so_far.buf) i, (sym w.long) i))
+          c.write_text.ensures.asks;
     }
+
+pub returns-in_err-next-clause-asks : goal.returns-in_err-next-clause-asks
+returns-in_err-next-clause-asks g c = asks_none (caps_of c.args.plan.now.layout)
+    (cells_of c.args.so_far.now.filled) (g.D.Disk.state c.args.disk.now)
+
+pub returns-in_default-clause-asks : goal.returns-in_default-clause-asks
+returns-in_default-clause-asks g c = asks_none (caps_of c.args.plan.now.layout)
+    (cells_of c.args.so_far.now.filled) (g.D.Disk.state c.args.disk.now)
+
+pub returns-in_default-found-clause-asks : goal.returns-in_default-found-clause-asks
+returns-in_default-found-clause-asks g c = asks_none (caps_of c.args.plan.now.layout)
+    (cells_of c.args.so_far.now.filled) (g.D.Disk.state c.args.disk.now)
+
+pub returns-in_err-whole-clause-asks : goal.returns-in_err-whole-clause-asks
+returns-in_err-whole-clause-asks g c = asks_one (caps_of c.args.plan.now.layout)
+    (cells_of c.args.so_far.now.filled) _ c.in-Some.size
+    (g.D.Disk.state c.args.disk.now) (g.D.Disk.state c.write_text.new.disk)
+    (c.deref_mut.ensures.len ∙ c.requires.so_far.buf) c.in-Some-found.ensures.stands.room
+    c.write_text.ensures.asks
+
+pub returns-then-not-whole-clause-asks : goal.returns-then-not-whole-clause-asks
+returns-then-not-whole-clause-asks g c = asks_one (caps_of c.args.plan.now.layout)
+    (cells_of c.args.so_far.now.filled) _ c.in-Some.size
+    (g.D.Disk.state c.args.disk.now) (g.D.Disk.state c.write_text.new.disk)
+    (c.deref_mut.ensures.len ∙ c.requires.so_far.buf) c.in-Some-found.ensures.stands.room
+    c.write_text.ensures.asks
+
+pub returns-clause-asks : goal.returns-clause-asks
+returns-clause-asks g c = asks_one (caps_of c.args.plan.now.layout)
+    (cells_of c.args.so_far.now.filled) _ c.in-Some.size
+    (g.D.Disk.state c.args.disk.now) (g.D.Disk.state c.write_text.new.disk)
+    (c.deref_mut.ensures.len ∙ c.requires.so_far.buf) c.in-Some-found.ensures.stands.room
+    c.write_text.ensures.asks

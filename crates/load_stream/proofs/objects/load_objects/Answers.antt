@@ -6,7 +6,7 @@ use Rattle.segment_layout.specs.Layouts.{caps_of, divisor_of}
 use Rattle.segment_layout.specs.Shapes.{end_of}
 use Rattle.extent_table.specs.declared.spot.Spot.{Spot}
 use Rattle.load_stream.specs.Steps.{StopsIn}
-use Rattle.load_stream.proofs.LoopLaws.{loads_count, loads_more, loads_none, loads_stop}
+use Rattle.load_stream.proofs.LoopLaws.{asks_all, asks_due, loads_count, loads_more, loads_none, loads_stop}
 use Rattle.load_stream.proofs.objects.load_objects.Goals as goal
 
 pub objects-init : goal.objects-init
@@ -83,3 +83,23 @@ objects-preserved g c =
       source_calm = source_calm ∙ was.source_calm;
       told = told ∙ was.told;
     }
+
+pub returns-in_err-stood-clause-asks : goal.returns-in_err-stood-clause-asks
+returns-in_err-stood-clause-asks g c =
+    let p = c.args.plan.now in
+    asks_due p p.layout.caps.shape.full c.objects.so_far _ c.objects.n (g.D.Disk.state c.args.disk.now)
+    (g.D.Disk.state c.objects.disk) c.objects.invariant.to p.head.count
+    (g.D.Disk.state c.load_object.new.disk) (omega arith) c.load_object.ensures.asks
+
+pub returns-then-not-stood-clause-asks : goal.returns-then-not-stood-clause-asks
+returns-then-not-stood-clause-asks g c =
+    let p = c.args.plan.now in
+    asks_due p p.layout.caps.shape.full c.objects.so_far _ c.objects.n (g.D.Disk.state c.args.disk.now)
+    (g.D.Disk.state c.objects.disk) c.objects.invariant.to p.head.count
+    (g.D.Disk.state c.load_object.new.disk) (omega arith) c.load_object.ensures.asks
+
+pub returns-clause-asks : goal.returns-clause-asks
+returns-clause-asks g c =
+    let p = c.args.plan.now in
+    asks_all p p.layout.caps.shape.full c.objects.so_far _ c.objects.n (g.D.Disk.state c.args.disk.now)
+    (g.D.Disk.state c.objects.disk) c.objects.invariant.to p.head.count (omega arith)

@@ -10,6 +10,7 @@ use Rattle.extent_table.proofs.SaveLaws.{rolled_in_range}
 use Rattle.placement_model.specs.Laid.{in_version, settled_header}
 use Rattle.flush_run.proofs.RolledLaws.{rolled_count}
 use Rattle.load_stream.proofs.SaveLaws.{save_images, save_opens, save_stopped}
+use Rattle.load_stream.proofs.WeightLaws.{save_asked}
 use Rattle.load_stream.proofs.save.save_loaded.Goals as goal
 
 pub save-requires-clause-save : goal.save-requires-clause-save
@@ -78,3 +79,13 @@ returns-clause-saved g c told l =
     (c.settled_header-header.ensures.header
     ∙ ap (λ (x : List (List ℕ)). in_version 1 (settled_header (caps_of p.layout) x)) c.requires.grid)
     (c.save.ensures.left told) (c.in_ok-save.ensures.done told)
+
+pub returns-in_err-save-clause-asks : goal.returns-in_err-save-clause-asks
+returns-in_err-save-clause-asks g c = save_asked _ c.args.table.now (g.D.Disk.state c.args.disk.now)
+    (g.D.Disk.state c.save.new.disk)
+    (ap (λ (h : Header). h.version) c.settled_header-header.ensures.header) c.save.ensures.asks
+
+pub returns-clause-asks : goal.returns-clause-asks
+returns-clause-asks g c = save_asked _ c.args.table.now (g.D.Disk.state c.args.disk.now)
+    (g.D.Disk.state c.save.new.disk)
+    (ap (λ (h : Header). h.version) c.settled_header-header.ensures.header) c.save.ensures.asks
