@@ -6,8 +6,7 @@ use Rattle.byte_ranges.specs.Ranges.{bytes_at}
 use Rattle.byte_ranges.proofs.RangeLaws.{bytes_at-append}
 use Rattle.disk_face.specs.Frames.{Unchanged}
 use Rattle.disk_face.specs.States.{State}
-use Rattle.disk_face.proofs.FrameLaws.{Unchanged-trans, asks_nothing}
-use Rattle.disk_face.proofs.MomentLaws.{Leaves-none}
+use Rattle.disk_face.proofs.FrameLaws.{Unchanged-trans, unchanged_itself}
 use Rattle.slot_codec.specs.Choice.{read_records}
 use Rattle.slot_codec.specs.declared.codec.Record.{Record}
 use Rattle.slot_pair.specs.Finding.{Refuses}
@@ -17,17 +16,6 @@ use Rattle.placement_model.specs.Orders.{SetSoFar}
 use Rattle.placement_model.proofs.OrderLaws.{set_none}
 use Rattle.reopen.specs.Records.{AreSet, ReadSoFar, ReadThrough, SetPiece, all_records, rows}
 use Rattle.reopen.proofs.RecordLaws.{all_from_none, all_to_none}
-
-pub Unchanged-refl : (d : State) → IsTrue d.is_ready → Unchanged d d
-Unchanged-refl d ready = record {
-  same_file = λ told. refl;
-  images = λ image is. is;
-  since = Leaves-none d d.may_leave;
-  same_turn = refl;
-  later = omega arith;
-  stays = record { ready = ready; told = refl; images_told = refl; same_mount = refl };
-  asks = asks_nothing d;
-}
 
 -- no record is set in an empty map
 pub set_empty : (spots : Spots) → spots ≡ fin.empty → SetSoFar spots None (records_of spots)
@@ -57,7 +45,7 @@ read_none version l at count old d ready empty =
                 ∙ ap (λ p. all_records version [] (count - 0)
                 (bytes_at d.file p (l * (count - 0))) p None) place;
           };
-      frame = Unchanged-refl d ready;
+      frame = unchanged_itself d ready;
       calm = refl;
     }
 
