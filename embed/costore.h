@@ -182,7 +182,9 @@ int32_t costore_format(costore *store, uint64_t k, uint64_t names);
 
    Answers as costore_format, and, with the handle closed: COSTORE_LINE (the text isn't a dump; *number is the object at
    which it stops being one, from 1, or 0 for the first line); COSTORE_MORE_NAMES (*number is how many objects it has).
-   COSTORE_DISK says here that the log, or the room for the objects, is too small.
+   COSTORE_DISK says here that the log or the room is too small. Enough for the objects that the first line tells is a
+   log of 8,876 bytes, plus those of the objects, plus 97 for each, plus 17 for each whole 65,536 bytes of all and for
+   each 512 objects begun; and a room for the head and their layout.
    If you crash while replaying the log, the file is no store, an empty store, or complete. */
 int32_t costore_load(costore *store, const uint8_t *text, size_t n, uint64_t k, uint64_t names, uint64_t *number);
 

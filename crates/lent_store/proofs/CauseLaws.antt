@@ -1,6 +1,6 @@
 -- Why a call failed on a file that was lent: for want of room, if so much is asked for at most.
-use Rattle.std.proofs.Common.{◌≡◌, ap, arith, inl, inr, refl, subst, ℕ, length}
-use Rattle.std.specs.Prelude.{◌⊎◌, ◌*◌, ◌<◌, ◌≤◌, Err, IsTrue}
+use Rattle.std.proofs.Common.{◌≡◌, ap, arith, inl, inr, refl, subst, ℕ, List, length}
+use Rattle.std.specs.Prelude.{◌⊎◌, ◌+◌, ◌*◌, ◌<◌, ◌≤◌, Err, IsTrue, sum}
 use Rattle.disk_face.specs.Counts.{Rose}
 use Rattle.disk_face.specs.Frames.{Asks, call_weight}
 use Rattle.disk_face.specs.States as disk
@@ -11,14 +11,18 @@ use Rattle.lent_disk.specs.Notings.{LacksSpace, Noting, lent}
 use Rattle.lent_disk.specs.Rooms.{Filing, Logging}
 use Rattle.lent_disk.proofs.WordLaws.{same_words}
 use Rattle.slot_codec.specs.Spelling.{head_len}
+use Rattle.segment_layout.specs.Shapes.{end_of}
 use Rattle.slot_pair.specs.Formats.{HasFirstTable, formatted_file}
 use Rattle.slot_pair.specs.declared.find.SlotFault.TheVariants as slot
 use Rattle.size_class.specs.declared.TheConstants.{CLASSES}
 use Rattle.reopen.specs.declared.fault.OpenFault.{OpenFault}
 use Rattle.reopen.specs.declared.fault.OpenFault.TheVariants as fault
 use Rattle.store_model.specs.Opened.{IsOpening}
+use Rattle.load_stream.specs.Loaded.{AsksToLoad}
+use Rattle.load_stream.specs.Weights.{load_weight}
 use Rattle.lent_store.specs.Made.{LacksToFormat, NotMade, format_weight}
 use Rattle.lent_store.specs.Opening.{RefusesLent}
+use Rattle.lent_store.specs.Streams.{LacksToLoad}
 use Rattle.lent_store.proofs.MadeLaws.{format_refused, left_alone}
 use Rattle.lent_store.proofs.NotedLaws.{name_in}
 
@@ -45,6 +49,19 @@ module _ (room : Filing) (log : Logging) (n : Noting)
         | inl heavy ↦ inr heavy
         | inr long ↦ inl long
       ]
+
+  pub lacks_to_load : (k names : ℕ) (text : List ℕ) → Rose 0 n.history.faults
+      → AsksToLoad k names text start (lent_state n) → LacksToLoad k names text room log
+  lacks_to_load k names text rose asks = record {
+    tells = asks.tells;
+    lacks = elim (lacks (load_weight asks.tells.count (sum asks.tells.begins.volumes))
+        (head_len names + end_of k asks.tells.begins.volumes) rose asks.asks)
+        as (λ _. (room.most < head_len names + end_of k asks.tells.begins.volumes)
+        ⊎ (log.most < load_weight asks.tells.count (sum asks.tells.begins.volumes))) [
+          | inl heavy ↦ inr heavy
+          | inr long ↦ inl long
+        ];
+  }
 
   -- a format failed
   pub not_formatted : (names : ℕ) → Rose 0 n.history.faults

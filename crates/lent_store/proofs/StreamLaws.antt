@@ -1,14 +1,17 @@
 -- What is read of a file that a store is over, and of one that was loaded.
 use Rattle.std.proofs.Common.{arith, ap, ◌≡◌, ◌∙◌, refl, subst, sym, true, false, ℕ, List, [], inl, inr}
-use Rattle.std.specs.Prelude.{length, ◌+◌, ◌<◌, Option, Some, None, Result, Ok, Err, IfOk}
+use Rattle.std.specs.Prelude.{length, ◌+◌, ◌<◌, ◌⊎◌, Option, Some, None, Result, Ok, Err, IfErr, IfOk}
 use Rattle.std.specs.FinMap as fin
+use Rattle.disk_face.specs.Counts.{Rose}
 use Rattle.disk_face.specs.Frames.{Unchanged}
 use Rattle.disk_face.specs.Moments.{Leaves, Rests}
 use Rattle.disk_face.specs.States as disk
+use Rattle.disk_face.proofs.FrameLaws.{asks_then}
 use Rattle.disk_face.proofs.MomentLaws.{Leaves-trans, Leaves-weaken}
 use Rattle.disk_history.specs.Histories.{EndedBy, History, fresh}
 use Rattle.lent_disk.specs.Disks.{lent_state}
-use Rattle.lent_disk.specs.Notings.{IsLog, Noting, content, lent}
+use Rattle.lent_disk.specs.Notings.{IsLog, LacksSpace, Noting, content, lent}
+use Rattle.lent_disk.specs.Rooms.{Filing, Logging}
 use Rattle.lent_disk.proofs.WordLaws.{same_words}
 use Rattle.size_class.specs.declared.TheConstants.{CLASSES, SIZE_MAX}
 use Rattle.slot_codec.specs.Choice as choice
@@ -27,21 +30,23 @@ use Rattle.reopen.specs.Refusals.{RefusesToOpen}
 use Rattle.reopen.specs.declared.fault.OpenFault.{OpenFault}
 use Rattle.reopen.specs.declared.fault.OpenFault.TheVariants as fault
 use Rattle.reopen.specs.declared.state.Loaded.{Loaded}
-use Rattle.store_model.specs.Connection.{IsOver}
+use Rattle.store_model.specs.Connection.{IsOver, StoreValue}
 use Rattle.store_model.specs.Opened.{IsFresh, IsOpening, OpensFound, SameOnFound}
 use Rattle.store_model.specs.States as store
 use Rattle.dump_stream.specs.Dumping.{AreSound}
 use Rattle.dump_stream.specs.Dumps.{IsDumpOf, dump_text}
 use Rattle.dump_stream.specs.Placing.{laid_book}
 use Rattle.dump_stream.proofs.TextLaws.{one_map}
-use Rattle.load_stream.specs.Loaded.{IsLoadImage, LoadsWhole, OpensDump}
+use Rattle.load_stream.specs.Loaded.{AsksLoaded, AsksToLoad, IsLoadImage, Judges, LoadsWhole, OpensDump}
 use Rattle.load_stream.specs.Steps.{passed}
 use Rattle.load_stream.specs.declared.fault.LoadFault.{LoadFault}
+use Rattle.load_stream.specs.declared.fault.LoadFault.TheVariants as load_fault
 use Rattle.lent_store.specs.declared.stream.DumpStop.{DumpStop}
 use Rattle.lent_store.specs.declared.stream.DumpStop.TheVariants as stop
 use Rattle.lent_store.specs.Embedded.{Embedded, IsEmbedded, disk_of, file_in}
 use Rattle.lent_store.specs.Noted.{IsNotedOf, StopsFrom}
-use Rattle.lent_store.specs.Streams.{AnswersDump, CopiesDump, HasLoaded, IsKeptSound, kept_in}
+use Rattle.lent_store.specs.Streams.{AnswersDump, CopiesDump, FailsToOpen, HasLoaded, IsKeptSound, LacksToLoad, RefusesLoad, kept_in}
+use Rattle.lent_store.proofs.CauseLaws.{lacks_to_load}
 use Rattle.lent_store.proofs.NotedLaws.{name_in}
 use Rattle.lent_store.proofs.StopLaws.{stops_from}
 use Rattle.store_model.proofs.OpeningLaws.{alike_itself}
@@ -115,17 +120,20 @@ no_table : {P : Type 0} (file : List ℕ) {t : choice.SlotTable} (why : choice.S
     → choice.table_of file ≡ Ok t → choice.table_of file ≡ Err why → P
 no_table file why is refused = absurd (let e = sym is ∙ refused in cc)
 
-unread : (file : List ℕ) (t : choice.SlotTable) (m : Map) (b : Book) → OpensBy CLASSES SIZE_MAX t file m b
-    → (why : OpenFault) → RefusesToOpen CLASSES file why → (why ≡ fault.Slot slot.Disk → ⊥)
-    → why ≡ fault.NoMemory
-unread file t m b o fault.NoMemory is calm = refl
-unread file t m b o (fault.Slot slot.Disk) is calm = absurd (calm refl)
-unread file t m b o (fault.Slot slot.Short) is calm = no_table file choice.too_short o.read is
-unread file t m b o (fault.Slot slot.Unformatted) is calm = no_table file choice.unformatted o.read is
-unread file t m b o (fault.Slot slot.NoGate) is calm = no_table file choice.no_gate o.read is
-unread file t m b o (fault.Slot slot.SameSequence) is calm = no_table file choice.same_sequence o.read is
-unread file t m b o (fault.Slot (slot.Codec f at)) is calm = no_table file (choice.codec f at) o.read is
-unread file t m b o (fault.Table broken) is calm =
+unread : {P : Type 0} (file : List ℕ) (t : choice.SlotTable) (m : Map) (b : Book)
+    → OpensBy CLASSES SIZE_MAX t file m b → (why : OpenFault) → RefusesToOpen CLASSES file why
+    → (why ≡ fault.NoMemory → P) → (why ≡ fault.Slot slot.Disk → P) → P
+unread file t m b o fault.NoMemory is memory failed = memory refl
+unread file t m b o (fault.Slot slot.Disk) is memory failed = failed refl
+unread file t m b o (fault.Slot slot.Short) is memory failed = no_table file choice.too_short o.read is
+unread file t m b o (fault.Slot slot.Unformatted) is memory failed =
+    no_table file choice.unformatted o.read is
+unread file t m b o (fault.Slot slot.NoGate) is memory failed = no_table file choice.no_gate o.read is
+unread file t m b o (fault.Slot slot.SameSequence) is memory failed =
+    no_table file choice.same_sequence o.read is
+unread file t m b o (fault.Slot (slot.Codec f at)) is memory failed =
+    no_table file (choice.codec f at) o.read is
+unread file t m b o (fault.Table broken) is memory failed =
     absurd (valid_breaks_none (placed_table CLASSES SIZE_MAX file t) broken.rule broken.at o.valid
     (subst (λ (u : choice.SlotTable). FirstBroken (placed_table CLASSES SIZE_MAX file u) broken.rule
     broken.at) (one_table file is.read o.read) is.first))
@@ -140,10 +148,27 @@ stopped_dump {e} {seen} is inside idle whole {file} same why refuses calm cause 
     let whole_seen : seen.store.is_broken ≡ false = ap (λ (z : Embedded). z.store.is_broken) is ∙ whole in
     let over = over_now seen inside idle_seen whole_seen in
     let none = unread (file_in seen) over.table (kept_in seen) seen.store.kept_book over.checkpoint.opens why
-    (subst (λ (f : List ℕ). RefusesToOpen CLASSES f why) same refuses) calm in
+    (subst (λ (f : List ℕ). RefusesToOpen CLASSES f why) same refuses) (λ i. i) (λ i. absurd (calm i)) in
     subst (λ (c : DumpStop). AnswersDump e out (Err c)) (sym (memory none)) whole
 
 -- ---- a load
+
+-- why a load is refused that has read its text
+no_memory : (k names : ℕ) (text : List ℕ) (room : Filing) (log : Logging) (f : LoadFault) → f ≡ load_fault.NoMemory
+    → RefusesLoad k names text room log f
+no_memory k names text room log f is = record {
+  read = λ other. absurd (let bad = sym is ∙ other in cc);
+  judged = λ judges. absurd (subst (λ (x : LoadFault). Judges (Err x)) is judges);
+  lacks = λ other. absurd (let bad = sym is ∙ other in cc);
+}
+
+no_disk : (k names : ℕ) (text : List ℕ) (room : Filing) (log : Logging) (f : LoadFault) → f ≡ load_fault.Disk
+    → LacksToLoad k names text room log → RefusesLoad k names text room log f
+no_disk k names text room log f is lacks = record {
+  read = λ other. absurd (let bad = sym is ∙ other in cc);
+  judged = λ judges. absurd (subst (λ (x : LoadFault). Judges (Err x)) is judges);
+  lacks = λ same. lacks;
+}
 
 -- a store that was opened of a file that was loaded, and rests
 module _ (k names : ℕ) {input text : List ℕ} (same_text : input ≡ text) (left : List ℕ) (first : disk.State)
@@ -156,15 +181,15 @@ module _ (k names : ℕ) {input text : List ℕ} (same_text : input ≡ text) (l
   abbrev IsLeft : List ℕ → Type 0
   IsLeft = IsLoadImage k names (passed true input left)
 
-  found : (e : Embedded) → IsOpening CLASSES (lent_state n) (disk_of e) (Ok e.store)
-      → OpensFound CLASSES o.opens.table o.objects (laid_book o.objects) (lent_state n) (disk_of e)
-      (Ok e.store)
-  found e is = is.found refl o.opens.table o.objects (laid_book o.objects) o.opens.opens
+  found : (now : disk.State) (result : Result StoreValue OpenFault)
+      → IsOpening CLASSES (lent_state n) now result
+      → OpensFound CLASSES o.opens.table o.objects (laid_book o.objects) (lent_state n) now result
+  found now result is = is.found refl o.opens.table o.objects (laid_book o.objects) o.opens.opens
 
   -- the opening leaves it alone
-  left_alone : (e : Embedded) → IsOpening CLASSES (lent_state n) (disk_of e) (Ok e.store)
-      → Unchanged (lent_state n) (disk_of e)
-  left_alone e is = (found e is).alone o.opens.settled (omega (
+  left_alone : (now : disk.State) (result : Result StoreValue OpenFault)
+      → IsOpening CLASSES (lent_state n) now result → Unchanged (lent_state n) now
+  left_alone now result is = (found now result is).alone o.opens.settled (omega (
     arith,
     o.ends,
     ap (λ (b : SuperBlock). head_len b.names + book_end b.k (laid_book o.objects)) o.opens.made_for,
@@ -176,7 +201,7 @@ module _ (k names : ℕ) {input text : List ℕ} (same_text : input ≡ text) (l
       subst (λ (z : List ℕ × List ℕ). StopsFrom [] (IsLoadImage k names (passed true z.0 z.1)) e)
       (λ i. (same_text i, w.ended refl i))
       (stops_from [] room log_room IsLeft e noted (inl refl) (Leaves-trans begun (Leaves-weaken IsLeft
-      (λ image may. subst IsLeft (sym (rests image may)) (inr (inr o))) (left_alone e is).since)))
+      (λ image may. subst IsLeft (sym (rests image may)) (inr (inr o))) (left_alone (disk_of e) (Ok e.store) is).since)))
 
   has_loaded : (e : Embedded) → IsOpening CLASSES (lent_state n) (disk_of e) (Ok e.store) → IsNotedOf [] e
       → HasLoaded k names text e
@@ -194,10 +219,36 @@ module _ (k names : ℕ) {input text : List ℕ} (same_text : input ≡ text) (l
         now = ap (λ (s : store.State). s.map) op.state ∙ same;
         kept = ap (λ (s : store.State). s.kept) op.state ∙ same;
         block = op.block ∙ ap (λ (t : choice.SlotTable). t.chosen.block) table ∙ o.opens.made_for;
-        rests = (found e is).rests (λ image may. subst (SameOnFound o.opens.table (content n))
+        rests = (found (disk_of e) (Ok e.store) is).rests (λ image may. subst (SameOnFound o.opens.table (content n))
             (sym (rests image may)) (alike_itself o.opens.table (content n)));
         stops = loaded_stops e is noted;
       }
+
+  -- a file that was loaded isn't opened for want of memory, of room or of log
+  pub not_reopened : (filing : Filing) (log : Logging) {before : Noting}
+      → before ≡ lent filing.file filing.most log.most
+      → (lent_state n).last_mount ≡ (lent_state before).last_mount
+      → n.history.faults ≡ before.history.faults
+      → AsksToLoad k names input (lent_state before) (lent_state n) → (result : Result Embedded LoadFault)
+      → IfErr result (λ f. (f ≡ load_fault.NoMemory) ⊎ ((f ≡ load_fault.Disk) × FailsToOpen n))
+      → IfErr result (RefusesLoad k names text filing log)
+  not_reopened filing log start same calm asks (Ok e) is = tt
+  not_reopened filing log start same calm asks (Err f) (inl none) = no_memory k names text filing log f none
+  not_reopened filing log {before} start same calm asks (Err f) (inr failed) =
+      let x = failed.1 in
+      let alone = left_alone (lent_state x.now) (Err x.refusal) x.opening in
+      let of_text = subst (λ (m : Noting). AsksToLoad k names text (lent_state m) (lent_state n)) start
+      (subst (λ (t : List ℕ). AsksToLoad k names t (lent_state before) (lent_state n)) same_text asks) in
+      no_disk k names text filing log f failed.0 (unread (content n) o.opens.table o.objects
+      (laid_book o.objects) o.opens.opens x.refusal (x.opening.refused refl) (λ i. absurd (x.memory i))
+      (λ i. lacks_to_load filing log x.now
+      (x.same_mount ∙ same ∙ ap (λ (m : Noting). (lent_state m).last_mount) start) x.cause k names text
+      (subst (λ (m : ℕ). Rose m x.now.history.faults) (calm ∙ ap (λ (m : Noting). m.history.faults) start)
+      (x.opening.cause.rose (λ j. Err (i j))))
+      (record {
+        tells = of_text.tells;
+        asks = asks_then of_text.asks alone.asks (omega arith) (omega arith) (omega arith);
+      })))
 
   pub loaded_by : (result : Result Embedded LoadFault)
       → IfOk result (λ s. IsOpening CLASSES (lent_state n) (disk_of s) (Ok s.store))
@@ -210,6 +261,23 @@ pub fresh_by : (n : Noting) (result : Result Embedded LoadFault)
     → IfOk result (λ s. IsFresh CLASSES s.store)
 fresh_by n (Ok e) is = is.fresh
 fresh_by n (Err why) is = tt
+
+-- a load that failed by the disk lacks room or log
+pub not_loaded : (k names : ℕ) {input text : List ℕ} → input ≡ text → (filing : Filing) (log : Logging)
+    (before now : Noting) → before ≡ lent filing.file filing.most log.most
+    → (lent_state now).last_mount ≡ (lent_state before).last_mount
+    → (now.start.faults < now.history.faults → LacksSpace now) → (f : LoadFault)
+    → (f ≡ load_fault.Disk → Rose before.history.faults now.history.faults)
+    → AsksLoaded k names input (lent_state before) (lent_state now) (Err f) → f ≡ load_fault.Disk
+    → LacksToLoad k names text filing log
+not_loaded k names {input} {text} same_text filing log before now start same cause f rose asks failed =
+    lacks_to_load filing log now (same ∙ ap (λ (m : Noting). (lent_state m).last_mount) start) cause k names
+    text (subst (λ (m : Noting). Rose m.history.faults now.history.faults) start (rose failed))
+    (subst (λ (t : List ℕ). AsksToLoad k names t (lent_state (lent filing.file filing.most log.most))
+    (lent_state now)) same_text
+    (subst (λ (m : Noting). AsksToLoad k names input (lent_state m) (lent_state now)) start
+    (subst (λ (x : LoadFault). AsksLoaded k names input (lent_state before) (lent_state now) (Err x)) failed
+    asks)))
 
 -- ---- logs
 

@@ -1,18 +1,26 @@
 -- What a dump of a store has, and what a store that is made of a dump has.
-use Rattle.std.specs.Prelude.{◌≡◌, ◌<◌, ◌≤◌, ℕ, true, false, List, [], length, take, Result, Ok, Err}
+use Rattle.std.specs.Prelude.{◌≡◌, ◌⊎◌, ◌+◌, ◌<◌, ◌≤◌, ℕ, true, false, List, [], length, sum, take, Result, Ok, Err}
 use Rattle.std.specs.FinMap as fin
+use Rattle.lent_disk.specs.Disks.{lent_state}
+use Rattle.lent_disk.specs.Notings.{LacksSpace, Noting}
+use Rattle.lent_disk.specs.Rooms.{Filing, Logging}
 use Rattle.size_class.specs.declared.TheConstants.{CLASSES, SIZE_MAX}
 use Rattle.slot_pair.specs.Formats.{block_for}
+use Rattle.segment_layout.specs.Shapes.{end_of}
 use Rattle.map_model.specs.Maps.{Map}
 use Rattle.store_model.specs.Connection.{kept_map, state_of}
 use Rattle.slot_codec.specs.Spelling.{head_len}
 use Rattle.placement_model.specs.Reads.{read_at}
 use Rattle.reopen.specs.Loads.{digests_loaded}
+use Rattle.reopen.specs.declared.fault.OpenFault.{OpenFault}
+use Rattle.reopen.specs.declared.fault.OpenFault.TheVariants as open_fault
 use Rattle.reopen.specs.declared.state.Loaded.{Loaded}
+use Rattle.store_model.specs.Opened.{IsOpening}
 use Rattle.dump_stream.specs.Dumping.{AreSound}
 use Rattle.dump_stream.specs.Dumps.{IsDumpOf, dump_text}
-use Rattle.load_stream.specs.Loaded.{AnswersLoad, IsLoadImage, Judges}
+use Rattle.load_stream.specs.Loaded.{AnswersLoad, IsLoadImage, Judges, TellsFew}
 use Rattle.load_stream.specs.Steps.{passed}
+use Rattle.load_stream.specs.Weights.{load_weight}
 use Rattle.load_stream.specs.declared.fault.LoadFault.{LoadFault}
 use Rattle.load_stream.specs.declared.fault.LoadFault.TheVariants as why
 use Rattle.lent_store.specs.Embedded.{Embedded, file_in}
@@ -54,11 +62,29 @@ pub record HasLoaded (k names : ℕ) (text : List ℕ) (e : Embedded) : Type 0 w
   pub rests : RestsOnKept e
   pub stops : StopsFrom [] (IsLoadImage k names (passed true text [])) e
 
+-- The room ends before the layout of the objects that the first line of a text tells, or the log is smaller
+-- than what spells their load.
+pub record LacksToLoad (k names : ℕ) (text : List ℕ) (room : Filing) (log : Logging) : Type 0 where
+  pub tells : TellsFew names text
+  pub lacks : (room.most < head_len names + end_of k tells.begins.volumes)
+      ⊎ (log.most < load_weight tells.count (sum tells.begins.volumes))
+
 -- A load is refused for what its text is, as `load` says it, or for want of memory, of room or of log. A text
 -- in memory is read to its end.
-pub record RefusesLoad (names : ℕ) (text : List ℕ) (fault : LoadFault) : Type 0 where
+pub record RefusesLoad (k names : ℕ) (text : List ℕ) (room : Filing) (log : Logging) (fault : LoadFault)
+    : Type 0 where
   pub read : fault ≡ why.Source → ⊥
   pub judged : Judges (Err fault) → AnswersLoad names text (Err fault)
+  pub lacks : fault ≡ why.Disk → LacksToLoad k names text room log
+
+-- The file that was loaded wasn't opened, and it isn't that there was no memory.
+pub record FailsToOpen (n : Noting) : Type 0 where
+  pub now : Noting
+  pub refusal : OpenFault
+  pub opening : IsOpening CLASSES (lent_state n) (lent_state now) (Err refusal)
+  pub memory : refusal ≡ open_fault.NoMemory → ⊥
+  pub same_mount : (lent_state now).last_mount ≡ (lent_state n).last_mount
+  pub cause : now.start.faults < now.history.faults → LacksSpace now
 
 -- the same of a file that was read as a table: at its end, or where an object is damaged
 abbrev pub CopiesDump : Loaded CLASSES → List ℕ → List ℕ → Result ℕ DumpStop → Type 0

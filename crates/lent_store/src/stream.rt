@@ -7,7 +7,7 @@ ghost use Rattle.size_class.specs.declared.TheConstants.{CLASSES};
 ghost use Rattle.slot_codec.specs.Readable.{IsSuperBlock};
 ghost use Rattle.slot_pair.specs.Formats.{block_for};
 ghost use Rattle.store_model.specs.Opened.{IsFresh, IsOpening};
-ghost use Rattle.lent_store.specs.{Embedded.{disk_of}, Noted.{IsNotedOf}, Streams.{CopiesDump}};
+ghost use Rattle.lent_store.specs.{Embedded.{disk_of}, Noted.{IsNotedOf}, Streams.{CopiesDump, FailsToOpen}};
 
 use crate::LentStore;
 use crate::dumped::Dumped;
@@ -76,13 +76,17 @@ impl LentStore {
         ensures loaded { IfOk result (HasLoaded k names text.now) }
         ensures fresh { IfOk result (λ s. IsFresh CLASSES s.store) }
         ensures noted { IfOk result (IsNotedOf []) }
-        ensures refused { IfErr result (RefusesLoad names text.now) }
+        ensures refused { IfErr result (RefusesLoad k names text.now room.entry log.entry) }
     {
         let mut disk = LentDisk::new(room, log);
         let mut input = TextSource::new(text);
         match load_stream::load(alloc, &mut disk, k, names, &mut input) {
             Ok(()) => open_loaded(alloc, disk),
-            Err(fault) => Err(fault),
+            Err(fault) => {
+                // For the prover: a call failed for want of room alone.
+                disk.is_noted();
+                Err(fault)
+            }
         }
     }
 }
@@ -146,13 +150,24 @@ fn open_loaded(alloc: Global, mut disk: LentDisk) -> Result<LentStore, LoadFault
     ensures opened { IfOk result (λ s. IsOpening CLASSES (lent_state disk.entry) (disk_of s) (Ok s.store)) }
     ensures noted { IfOk result (λ s. IsLog disk.entry.start s.noting.history s.noting.text) }
     ensures ended { IfOk result (λ s. EndedBy s.noting.history.turn s.noting.history.calls) }
-    ensures refused { IfErr result (λ fault. (fault ≡ LoadFault.NoMemory) ⊎ (fault ≡ LoadFault.Disk)) }
+    ensures refused { IfErr result (λ fault. (fault ≡ LoadFault.NoMemory)
+        ⊎ ((fault ≡ LoadFault.Disk) × FailsToOpen disk.entry)) }
 {
     let opened: Result<Store<CLASSES>, OpenFault> = Store::open(alloc, &mut disk);
     disk.is_noted();
     match opened {
         Ok(store) => Ok(LentStore { store, disk }),
-        Err(OpenFault::NoMemory) => Err(LoadFault::NoMemory),
-        Err(_) => Err(LoadFault::Disk),
+        Err(fault) => Err(fault_of(fault)),
+    }
+}
+
+/// Why a load stops whose file wasn't opened.
+fn fault_of(fault: OpenFault) -> LoadFault
+    ensures { ((fault ≡ OpenFault.NoMemory) × (result ≡ LoadFault.NoMemory))
+        ⊎ ((fault ≡ OpenFault.NoMemory → ⊥) × (result ≡ LoadFault.Disk)) }
+{
+    match fault {
+        OpenFault::NoMemory => LoadFault::NoMemory,
+        OpenFault::Slot(_) | OpenFault::Table(_) => LoadFault::Disk,
     }
 }
