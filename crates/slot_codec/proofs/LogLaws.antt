@@ -8,10 +8,11 @@ use Rattle.byte_ranges.proofs.RangeLaws.{bytes_at-same}
 use Rattle.slot_codec.specs.Choice.{is_open}
 use Rattle.slot_codec.specs.Reading.{number_at}
 use Rattle.slot_codec.specs.Spelling.{gate_open}
-use Rattle.slot_codec.specs.Logs.{IsLocal, Logged, goes_on, len_at, room_at, up, walk}
+use Rattle.slot_codec.specs.Entries.{up}
+use Rattle.slot_codec.specs.Logs.{IsLocal, goes_on, len_at, room_at, walk}
 
 -- a closed gate ends it
-pub walk_closed : (step : List ℕ → ℕ → Logged → Logged) (n : ℕ) (file : List ℕ) (top at : ℕ) (x : Logged)
+pub walk_closed : {T : Type 0} (step : List ℕ → ℕ → T → T) (n : ℕ) (file : List ℕ) (top at : ℕ) (x : T)
     → is_open file at ≡ false → walk step n file top at x ≡ (x, at)
 walk_closed step zero file top at x h = refl
 walk_closed step (suc n) file top at x h =
@@ -19,7 +20,7 @@ walk_closed step (suc n) file top at x h =
     (ap (λ b. b && nat_lt (at + room_at file at) top) h)
 
 -- it ends no earlier than it begins
-walk_grows : (step : List ℕ → ℕ → Logged → Logged) (n : ℕ) (file : List ℕ) (top at : ℕ) (x : Logged)
+walk_grows : {T : Type 0} (step : List ℕ → ℕ → T → T) (n : ℕ) (file : List ℕ) (top at : ℕ) (x : T)
     → at ≤ (walk step n file top at x).1
 walk_grows step zero file top at x = omega arith
 walk_grows step (suc n) file top at x =
@@ -76,13 +77,13 @@ goes_on_from file top at p =
 
 -- In a file that is alike up to the end of a log, the log of that file goes through the same entries, with
 -- fuel left.
-record GoesThrough (step : List ℕ → ℕ → Logged → Logged) (k m : ℕ) (b : List ℕ) (top at end : ℕ)
-    (x y : Logged) : Type 0 where
+record GoesThrough {T : Type 0} (step : List ℕ → ℕ → T → T) (k m : ℕ) (b : List ℕ) (top at end : ℕ)
+    (x y : T) : Type 0 where
   fuel : ℕ
   left : m ≤ fuel
   same : walk step k b top at x ≡ walk step fuel b top end y
 
-walk_then : (step : List ℕ → ℕ → Logged → Logged) (n m k : ℕ) (a b : List ℕ) (top at : ℕ) (x : Logged)
+walk_then : {T : Type 0} (step : List ℕ → ℕ → T → T) (n m k : ℕ) (a b : List ℕ) (top at : ℕ) (x : T)
     → n + m ≤ k → IsLocal step → top ≤ length a → top ≤ length b
     → SameWithin at (walk step n a top at x).1 a b
     → GoesThrough step k m b top at (walk step n a top at x).1 x (walk step n a top at x).0
@@ -130,7 +131,7 @@ walk_then step (suc n) m (suc k) a b top at x enough local in_a in_b same =
     ]
 
 -- alike up to the closed gate at which a log ends, a file has that log
-pub walk_same : (step : List ℕ → ℕ → Logged → Logged) (n : ℕ) (a b : List ℕ) (top at : ℕ) (x : Logged)
+pub walk_same : {T : Type 0} (step : List ℕ → ℕ → T → T) (n : ℕ) (a b : List ℕ) (top at : ℕ) (x : T)
     → IsLocal step → top ≤ length a → top ≤ length b
     → is_open a (walk step n a top at x).1 ≡ false
     → SameWithin at ((walk step n a top at x).1 + 1) a b
@@ -145,7 +146,7 @@ walk_same step n a b top at x local in_a in_b closed same =
     t.same ∙ walk_closed step t.fuel b top end (walk step n a top at x).0 gate
 
 -- from its end on: the log as it was, or one entry more
-at_end : (step : List ℕ → ℕ → Logged → Logged) (fuel : ℕ) (b : List ℕ) (top end : ℕ) (y : Logged)
+at_end : {T : Type 0} (step : List ℕ → ℕ → T → T) (fuel : ℕ) (b : List ℕ) (top end : ℕ) (y : T)
     → 1 ≤ fuel → end + room_at b end < top → is_open b (end + room_at b end) ≡ false
     → walk step fuel b top end y
     ≡ (if is_open b end then (step b end y, end + room_at b end) else (y, end))
@@ -163,7 +164,7 @@ at_end step (suc n) b top end y some whole closed =
     ]
 
 -- an entry behind the end of a log is there where its gate is open
-pub entry_there : (step : List ℕ → ℕ → Logged → Logged) (n : ℕ) (a b : List ℕ) (top at end : ℕ) (x y : Logged)
+pub entry_there : {T : Type 0} (step : List ℕ → ℕ → T → T) (n : ℕ) (a b : List ℕ) (top at end : ℕ) (x y : T)
     → IsLocal step → top ≤ length a → top ≤ length b → walk step n a top at x ≡ (y, end)
     → is_open a end ≡ false → SameWithin at end a b → end + room_at b end < top
     → is_open b (end + room_at b end) ≡ false

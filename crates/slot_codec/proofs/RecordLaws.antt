@@ -2,73 +2,72 @@
 use Rattle.std.proofs.Common.{◌≡◌, ◌↔◌, ℕ, ◌+◌, ◌-◌, ◌<◌, ◌≤◌, ◌^◌, ◌==◌, true, false, not, ◌&&◌, ◌||◌, inl, inr, List, [], ◌∷◌, ◌++◌, length, take, refl, sym, ap, ◌∙◌, subst, arith, drop-cons, length-append}
 use Rattle.std.proofs.lemmas.Bool.{and_from, and_parts, le-ltb, lt-ltb, ltb-false, ltb-true, not-false, not_from_true, or_from, or_parts, cases_Bool, cond-true, cond-false}
 use Rattle.std.proofs.lemmas.List.{append-nil, take_all, length-replicate}
-use Rattle.std.specs.Prelude.{nat_lt, slice_index, Ok}
+use Rattle.byte_ranges.specs.Lists.{◌>>=◌}
+use Rattle.std.specs.Prelude.{if◌then◌else◌, Ok, Err}
 use Rattle.byte_ranges.specs.Ranges.{bytes_at}
 use Rattle.byte_ranges.proofs.RangeLaws.{length-bytes_at}
-use Rattle.slot_codec.specs.Names.{is_name, IsName}
+use Rattle.slot_codec.specs.Names.{IsName, name_bytes}
+use Rattle.slot_codec.proofs.NameLaws.{NameParts, name_from_parts, name_front, name_is, name_named, name_parts, name_stands}
 use Rattle.slot_codec.proofs.NameLemmas.{name_short}
 use Rattle.slot_codec.proofs.PartLaws.{StandsAt, bytes_at-more, number_spelled, same_joined, stands_bytes, stands_index, stands_left, stands_number, stands_right, stands_whole, zeros_are_zeros, zeros_spelled}
 use Rattle.slot_codec.proofs.CapLaws.{record_len-long, record_len-low, record_len-short}
 use Rattle.slot_codec.specs.Readable.{IsDigest, IsRecord}
-use Rattle.slot_codec.specs.Reading.{are_zeros, digest_at, is_in_range, number_at, read_record, record_of}
+use Rattle.slot_codec.specs.Reading.{are_zeros, digest_at, is_in_range, number_at, read_name, read_record, record_of}
 use Rattle.slot_codec.specs.Spelling.{AreBytes, digest_bytes, number, record_bytes, record_len, zeros}
-use Rattle.slot_codec.proofs.StepLaws.{from_ok, guard_from, guard_ok}
+use Rattle.slot_codec.proofs.StepLaws.{bind_from, bind_ok, from_ok, guard_from, guard_ok}
 use Rattle.slot_codec.specs.declared.codec.Record.{Record}
 use Rattle.slot_codec.specs.declared.codec.CodecFault.TheVariants as fault
 
 -- what bytes have that are read as a record
 pub record RecordParts (version : ℕ) (bytes : List ℕ) (r : Record) : Type 0 where
-  pub len : slice_index bytes 0 ≡ length r.name
-  pub name : bytes_at bytes 1 (slice_index bytes 0) ≡ r.name
-  pub padding : are_zeros (bytes_at bytes (1 + length r.name) (63 - length r.name)) ≡ true
+  pub name_parts : NameParts bytes r.name
   pub place : number_at bytes 64 ≡ r.place
   pub size : number_at bytes 72 ≡ r.size
   pub digest : digest_at version bytes ≡ r.digest
   pub fits : IsRecord r
 
--- what is read as a record is in range
-pub record_fits : (version : ℕ) (bytes : List ℕ) (r : Record) → read_record version bytes ≡ Ok r → IsRecord r
+-- what is known of a record that is read: its name is read, and its numbers are in range
+record ReadParts (version : ℕ) (bytes : List ℕ) (r : Record) : Type 0 where
+  named : read_name bytes ≡ Ok r.name
+  is : record_of version bytes ≡ r
+  place : r.place < 2 ^ 48
+  size : r.size < 2 ^ 48
+
+read_parts : (version : ℕ) (bytes : List ℕ) (r : Record) → read_record version bytes ≡ Ok r
+    → ReadParts version bytes r
 unfolding read_record
-record_fits version bytes r h =
+read_parts version bytes r h =
     let o = record_of version bytes in
-    let a = guard_ok (nat_lt 63 (slice_index bytes 0) || not (is_name o.name)) _ _ r h in
-    let b = guard_ok (not (are_zeros (bytes_at bytes (1 + length o.name) (63 - length o.name)))) _ _ r a.1 in
-    let c = guard_ok (not (is_in_range o.place && is_in_range o.size)) _ _ r b.1 in
-    let named = or_parts (nat_lt 63 (slice_index bytes 0)) (not (is_name o.name)) a.0 in
+    let a = bind_ok (read_name bytes)
+    (λ name. if not (is_in_range o.place && is_in_range o.size) then Err fault.Range else Ok o) r h in
+    let c = guard_ok (not (is_in_range o.place && is_in_range o.size)) _ _ r a.2 in
     let ranges = and_parts (is_in_range o.place) (is_in_range o.size) (not-false _ c.0) in
-    let fits : IsRecord o = record {
-      named = not-false _ named.1;
+    let parts : ReadParts version bytes o = record {
+      named = a.1 ∙ ap Ok (sym (name_is bytes a.0 a.1));
+      is = refl;
       place = ltb-true o.place (2 ^ 48) ranges.0;
       size = ltb-true o.size (2 ^ 48) ranges.1;
     } in
-    rw (← from_ok o r c.1) fits
+    subst (ReadParts version bytes) (from_ok o r c.1) parts
+
+-- what is read as a record is in range
+pub record_fits : (version : ℕ) (bytes : List ℕ) (r : Record) → read_record version bytes ≡ Ok r → IsRecord r
+record_fits version bytes r h =
+    let p = read_parts version bytes r h in
+    record { named = name_named bytes r.name p.named; place = p.place; size = p.size }
 
 pub record_parts : (version : ℕ) (bytes : List ℕ) (r : Record) → 80 ≤ length bytes
     → read_record version bytes ≡ Ok r → RecordParts version bytes r
-unfolding read_record
 record_parts version bytes r long h =
-    let o = record_of version bytes in
-    let a = guard_ok (nat_lt 63 (slice_index bytes 0) || not (is_name o.name)) _ _ r h in
-    let b = guard_ok (not (are_zeros (bytes_at bytes (1 + length o.name) (63 - length o.name)))) _ _ r a.1 in
-    let c = guard_ok (not (is_in_range o.place && is_in_range o.size)) _ _ r b.1 in
-    let named = or_parts (nat_lt 63 (slice_index bytes 0)) (not (is_name o.name)) a.0 in
-    let short : slice_index bytes 0 ≤ 63 = ltb-false 63 (slice_index bytes 0) named.0 in
-    let same : o ≡ r = from_ok o r c.1 in
-    let parts : RecordParts version bytes o =
+    let p = read_parts version bytes r h in
+    let n = name_parts bytes r.name (omega (arith, long)) p.named in
     record {
-      len = sym (length-bytes_at bytes 1 (slice_index bytes 0) (omega (arith, short, long)));
-      name = refl;
-      padding = not-false _ b.0;
-      place = refl;
-      size = refl;
-      digest = refl;
-      fits = rw same (record_fits version bytes r h);
+      name_parts = n;
+      place = ap (λ x. x.place) p.is;
+      size = ap (λ x. x.size) p.is;
+      digest = ap (λ x. x.digest) p.is;
+      fits = record_fits version bytes r h;
     }
-    in
-    rw (← same) parts
-
-first_byte : (bytes : List ℕ) → 0 < length bytes → bytes_at bytes 0 1 ≡ slice_index bytes 0 ∷ []
-first_byte bytes h = ap (take 1) (drop-cons bytes 0 0 h)
 
 -- what stands behind the first 80 bytes is the spelling of the digest
 digest_spelled : (version : ℕ) (bytes digest : List ℕ) → length bytes ≡ record_len version
@@ -94,35 +93,18 @@ pub record_spelled : (version : ℕ) (bytes : List ℕ) (r : Record) → length 
 record_spelled version bytes r len are h =
     let long : 80 ≤ length bytes = omega (arith, len, record_len-low version) in
     let p = record_parts version bytes r long h in
-    let n = length r.name in
-    let short : n ≤ 63 = name_short r.name p.fits.named in
-    let name : bytes_at bytes 1 n ≡ r.name = ap (bytes_at bytes 1) (sym p.len) ∙ p.name in
-    let front : bytes_at bytes 0 (1 + n) ≡ n ∷ r.name =
-    sym (bytes_at-more bytes 0 1 n) ∙ ap (λ xs. xs ++ bytes_at bytes 1 n)
-    (first_byte bytes (omega (arith, long))) ∙ ap (λ x. x ∷ bytes_at bytes 1 n) p.len
-    ∙ ap (λ xs. n ∷ xs) name
-    in
-    let padding : bytes_at bytes (1 + n) (63 - n) ≡ zeros (63 - n) =
-    zeros_spelled (bytes_at bytes (1 + n) (63 - n)) p.padding
-    ∙ ap zeros (length-bytes_at bytes (1 + n) (63 - n) (omega (arith, long, short)))
-    in
+    let named : bytes_at bytes 0 64 ≡ name_bytes r.name =
+    name_front bytes r.name (omega (arith, long)) p.name_parts in
     let place : bytes_at bytes 64 8 ≡ number r.place = sym (number_spelled bytes 64 are (omega (arith, long)))
     ∙ ap number p.place in
     let size : bytes_at bytes 72 8 ≡ number r.size = sym (number_spelled bytes 72 are (omega (arith, long)))
     ∙ ap number p.size in
-    let named : bytes_at bytes 0 64 ≡ bytes_at bytes 0 (1 + n) ++ bytes_at bytes (1 + n) (63 - n) =
-    (let e : 64 ≡ 1 + n + (63 - n) = omega (arith, short) in
-    let f : 1 + n ≡ 0 + (1 + n) = omega arith in
-    ap (bytes_at bytes 0) e ∙ sym (bytes_at-more bytes 0 (1 + n) (63 - n))
-    ∙ ap (λ k. bytes_at bytes 0 (1 + n) ++ bytes_at bytes k (63 - n)) (sym f))
-    in
-    let short : bytes_at bytes 0 80
-    ≡ (n ∷ r.name) ++ zeros (63 - n) ++ number r.place ++ number r.size =
+    let short : bytes_at bytes 0 80 ≡ name_bytes r.name ++ number r.place ++ number r.size =
     sym (bytes_at-more bytes 0 72 8)
     ∙ ap (λ x. x ++ bytes_at bytes 72 8) (sym (bytes_at-more bytes 0 64 8))
     ∙ ap (λ x. x ++ bytes_at bytes 64 8 ++ bytes_at bytes 72 8) named
-    ∙ same_joined _ _ _ _ (n ∷ r.name) (zeros (63 - n)) (number r.place) (number r.size) front padding place
-    size
+    ∙ ap (λ x. name_bytes r.name ++ x ++ bytes_at bytes 72 8) place
+    ∙ ap (λ x. name_bytes r.name ++ number r.place ++ x) size
     in
     digest_spelled version bytes r.digest len p.digest
     ∙ ap (λ xs. xs ++ digest_bytes version r.digest) short
@@ -152,23 +134,38 @@ pub record_from_parts : (version : ℕ) (bytes : List ℕ) (r : Record) → Reco
     → read_record version bytes ≡ Ok r
 unfolding read_record
 record_from_parts version bytes r p =
-    let name = p.name in
+    let name = p.name_parts.text in
     let place = p.place in
     let size = p.size in
     let digest = p.digest in
-    let short : nat_lt 63 (slice_index bytes 0)
-    ≡ false = le-ltb 63 _ (omega (arith, p.len, name_short r.name p.fits.named)) in
-    let named : is_name (bytes_at bytes 1 (slice_index bytes 0)) ≡ true = ap is_name name ∙ p.fits.named in
-    let padding = ap (λ (xs : List ℕ). are_zeros (bytes_at bytes (1 + length xs) (63 - length xs))) name
-    ∙ p.padding in
     let place_low : is_in_range (number_at bytes 64) ≡ true = ap is_in_range place
     ∙ lt-ltb r.place (2 ^ 48) p.fits.place in
     let size_low : is_in_range (number_at bytes 72) ≡ true = ap is_in_range size
     ∙ lt-ltb r.size (2 ^ 48) p.fits.size in
-    guard_from _ fault.NameBytes _ (or_from _ _ short (not_from_true _ named))
-    ∙ guard_from _ fault.Zeros _ (not_from_true _ padding)
+    bind_from (read_name bytes) _ r.name (name_from_parts bytes r.name p.name_parts)
     ∙ guard_from _ fault.Range _ (not_from_true _ (and_from _ _ place_low size_low))
     ∙ λ i. Ok (record { name = name i; place = place i; size = size i; digest = digest i })
+
+-- so is what these parts make
+pub record_made : (version : ℕ) (bytes name : List ℕ) (place size : ℕ) (digest : List ℕ)
+    → read_name bytes ≡ Ok name → place ≡ number_at bytes 64 → size ≡ number_at bytes 72
+    → digest ≡ digest_at version bytes → place < 2 ^ 48 → size < 2 ^ 48
+    → Ok (record { name = name; place = place; size = size; digest = digest }) ≡ read_record version bytes
+unfolding read_record
+record_made version bytes name place size digest read place_is size_is digest_is low small =
+    let o = record_of version bytes in
+    let place_low : is_in_range (number_at bytes 64) ≡ true = lt-ltb _ (2 ^ 48) (omega (arith, low, place_is)) in
+    let size_low : is_in_range (number_at bytes 72) ≡ true = lt-ltb _ (2 ^ 48) (omega (arith, small, size_is)) in
+    let all : read_record version bytes ≡ Ok o =
+    bind_from (read_name bytes)
+    (λ name. if not (is_in_range o.place && is_in_range o.size) then Err fault.Range else Ok o) name read
+    ∙ guard_from _ fault.Range _ (not_from_true _ (and_from _ _ place_low size_low)) in
+    sym (all ∙ λ i. Ok (record {
+      name = name_is bytes name read i;
+      place = sym place_is i;
+      size = sym size_is i;
+      digest = sym digest_is i;
+    }))
 
 -- what has the spelling of a digest behind a record has the digest
 digest_stands : (version : ℕ) (bytes digest : List ℕ) → IsDigest version digest
@@ -202,17 +199,8 @@ record_stands version bytes r fits digested whole =
     whole in
     let three = stands_left bytes 0 (named ++ number r.place) (number r.size) all in
     let two = stands_left bytes 0 named (number r.place) three in
-    let one = stands_left bytes 0 front (zeros (63 - n)) two in
-    let len : slice_index bytes 0 ≡ n = stands_index bytes 0 n r.name one in
-    let padding : bytes_at bytes (1 + n) (63 - n) ≡ zeros (63 - n) =
-    stands_bytes bytes (1 + n) (63 - n) (zeros (63 - n)) (length-replicate {A = ℕ} (63 - n) 0)
-    (stands_right bytes 0 (1 + n) front (zeros (63 - n)) (omega arith) two)
-    in
     record {
-      len = len;
-      name = stands_bytes bytes 1 (slice_index bytes 0) r.name (sym len)
-          (stands_right bytes 0 1 (n ∷ []) r.name refl one);
-      padding = ap are_zeros padding ∙ zeros_are_zeros (63 - n);
+      name_parts = name_stands bytes r.name fits.named two;
       place = stands_number bytes 64 r.place (omega (arith, fits.place))
           (stands_right bytes 0 64 named (number r.place) (omega (arith, padded)) three);
       size = stands_number bytes 72 r.size (omega (arith, fits.size))

@@ -1,7 +1,9 @@
 //! The superblock, the headers and the records of a store's file, as bytes and as values.
 #![tactic(auto)]
 
+mod cells;
 mod codec;
+mod delta;
 mod entry;
 mod fields;
 mod header;
@@ -13,8 +15,12 @@ mod read;
 mod roll;
 mod write;
 
+pub use cells::HEADER_CELLS;
 pub use codec::{CodecFault, Header, Kind, NoMemory, Record, SuperBlock};
-pub use entry::{EntryHead, read_entry_head, read_pair, write_entry_head, write_pair};
+pub use delta::{ChangeKind, Delta};
+pub use entry::{
+    EntryHead, read_cell, read_entry_head, read_move, up, write_entry_head, write_pair,
+};
 pub use header::read_header;
 pub use laws::{
     a_closed_gate_ends_the_log, a_closed_slot_may_hold_anything, a_header_has_one_spelling,
@@ -30,6 +36,8 @@ pub use lengths::{
     head_len, record_len, slot_len,
 };
 pub use name::Name;
-pub use read::{read_record, read_record_after, read_superblock};
+pub use read::{read_name, read_record, read_record_after, read_superblock};
 pub use roll::Roll;
-pub use write::{write_digest, write_header, write_plain, write_record, write_superblock};
+pub use write::{
+    write_digest, write_header, write_name, write_plain, write_record, write_superblock,
+};
