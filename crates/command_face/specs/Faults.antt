@@ -1,8 +1,7 @@
 -- The lines that the program puts where it stops.
 use Rattle.std.specs.Prelude.{ℕ, List, [], ◌++◌, codes}
 use Rattle.std.specs.Fmt.{decimal}
-use Rattle.slot_codec.specs.declared.codec.CodecFault.{CodecFault}
-use Rattle.slot_codec.specs.declared.codec.CodecFault.TheVariants as codec
+use Rattle.slot_codec.specs.Faults.{codec_number}
 use Rattle.slot_pair.specs.declared.find.SlotFault.{SlotFault}
 use Rattle.slot_pair.specs.declared.find.SlotFault.TheVariants as slot
 use Rattle.reopen.specs.declared.fault.OpenFault.{OpenFault}
@@ -10,25 +9,12 @@ use Rattle.reopen.specs.declared.fault.OpenFault.TheVariants as opening
 use Rattle.command_face.specs.declared.stop.StopReason.{StopReason}
 use Rattle.command_face.specs.declared.stop.StopReason.TheVariants as stop
 
--- the numbers of the faults in bytes
-abbrev pub number_of : CodecFault → ℕ
-number_of codec.Magic = 1
-number_of codec.Params = 2
-number_of codec.Version = 3
-number_of codec.Kind = 4
-number_of codec.Zeros = 5
-number_of codec.Count = 6
-number_of codec.NameBytes = 7
-number_of codec.Order = 8
-number_of codec.Worn = 9
-number_of codec.Range = 10
-
 abbrev pub slot_text : SlotFault → List ℕ
 slot_text slot.Short = codes "slot 1"
 slot_text slot.Unformatted = codes "slot 2"
 slot_text slot.NoGate = codes "slot 3"
 slot_text slot.SameSequence = codes "slot 4"
-slot_text (slot.Codec f at) = codes "codec " ++ decimal (number_of f) ++ codes " at " ++ decimal at
+slot_text (slot.Codec f at) = codes "codec " ++ decimal (codec_number f) ++ codes " at " ++ decimal at
 slot_text slot.Disk = codes "disk"
 
 -- why a file is no store; want of memory is no reason (`stop_of`)

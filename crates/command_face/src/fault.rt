@@ -2,13 +2,12 @@
 ghost use Rattle.std.specs.Prelude.{◌≡◌, ◌≤◌, ◌+◌, ◌++◌, length};
 ghost use Rattle.std.specs.Fmt.{decimal};
 ghost use Rattle.arrayvec.specs.ArrayVec.{array_vec_len};
-ghost use Rattle.command_face.specs.Faults.{line_of, number_of, slot_text, store_text};
+ghost use Rattle.command_face.specs.Faults.{line_of, slot_text, store_text};
 
 use crate::StopReason;
 use arrayvec::ArrayVec;
 use itoa::Buffer;
 use reopen::OpenFault;
-use slot_codec::CodecFault;
 use slot_pair::SlotFault;
 
 /// The fault line of a reason to stop, with its newline; empty where the sink itself failed.
@@ -88,29 +87,11 @@ fn push_slot_fault(line: &mut ArrayVec<u8, 128>, fault: SlotFault)
         SlotFault::SameSequence => push(line, b"slot 4"),
         SlotFault::Codec(fault, at) => {
             push(line, b"codec ");
-            push_number(line, u64::from(number_of(fault)));
+            push_number(line, u64::from(fault.number()));
             push(line, b" at ");
             push_number(line, at);
         }
         SlotFault::Disk => push(line, b"disk"),
-    }
-}
-
-/// The number of a fault in bytes.
-fn number_of(fault: CodecFault) -> u8
-    ensures { result ≡ number_of fault }
-{
-    match fault {
-        CodecFault::Magic => 1,
-        CodecFault::Params => 2,
-        CodecFault::Version => 3,
-        CodecFault::Kind => 4,
-        CodecFault::Zeros => 5,
-        CodecFault::Count => 6,
-        CodecFault::NameBytes => 7,
-        CodecFault::Order => 8,
-        CodecFault::Worn => 9,
-        CodecFault::Range => 10,
     }
 }
 

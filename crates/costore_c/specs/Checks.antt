@@ -1,7 +1,6 @@
 -- What a check of a handle's file tells.
 use Rattle.std.specs.Prelude.{◌≡◌, ℤ, ℕ, pos, List, Result, Ok, Err, IfErr, OnOk}
-use Rattle.slot_codec.specs.declared.codec.CodecFault.{CodecFault}
-use Rattle.slot_codec.specs.declared.codec.CodecFault.TheVariants as codec
+use Rattle.slot_codec.specs.Faults.{codec_number}
 use Rattle.slot_pair.specs.declared.find.SlotFault.TheVariants as slot
 use Rattle.reopen.specs.declared.fault.OpenFault.{OpenFault}
 use Rattle.reopen.specs.declared.fault.OpenFault.TheVariants as why
@@ -11,18 +10,6 @@ use Rattle.store_handle.specs.declared.Stage.{Stage}
 use Rattle.store_handle.specs.declared.Stage.TheVariants as stage
 use Rattle.costore_c.specs.Answers.{closed_code, opening_code}
 use Rattle.costore_c.specs.declared.check.Fault.{Fault}
-
-abbrev pub codec_number : CodecFault → ℕ
-codec_number codec.Magic = 1
-codec_number codec.Params = 2
-codec_number codec.Version = 3
-codec_number codec.Kind = 4
-codec_number codec.Zeros = 5
-codec_number codec.Count = 6
-codec_number codec.NameBytes = 7
-codec_number codec.Order = 8
-codec_number codec.Worn = 9
-codec_number codec.Range = 10
 
 abbrev pub fault : ℕ → ℕ → ℕ → Fault
 fault kind number at = record { kind = kind; number = number; at = at }

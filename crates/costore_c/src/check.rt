@@ -1,11 +1,10 @@
 //! Whether the file of a handle keeps the rules of the format.
 ghost use Rattle.std.specs.Prelude.{◌≡◌};
-ghost use Rattle.costore_c.specs.Checks.{ChecksFile, check_code, codec_number, fault_of, told_fault};
+ghost use Rattle.costore_c.specs.Checks.{ChecksFile, check_code, fault_of, told_fault};
 
 use crate::codes::{CLOSED, DISK, DONE, NO_MEMORY, NO_STORE};
 use lent_store::check_file;
 use reopen::OpenFault;
-use slot_codec::CodecFault;
 use slot_pair::SlotFault;
 use std::alloc::Global;
 use store_handle::{Handle, Stage};
@@ -60,27 +59,9 @@ fn fault_of(why: &OpenFault) -> Fault
         OpenFault::Slot(SlotFault::Unformatted) => (1, 2, 0),
         OpenFault::Slot(SlotFault::NoGate) => (1, 3, 0),
         OpenFault::Slot(SlotFault::SameSequence) => (1, 4, 0),
-        OpenFault::Slot(SlotFault::Codec(codec, at)) => (2, codec_number(*codec), *at),
+        OpenFault::Slot(SlotFault::Codec(codec, at)) => (2, u64::from(codec.number()), *at),
         OpenFault::Table(broken) => (3, u64::from(broken.rule), broken.at),
         OpenFault::Slot(SlotFault::Disk) | OpenFault::NoMemory => (0, 0, 0),
     };
     Fault { kind, number, at }
-}
-
-/// The number of a fault in bytes.
-fn codec_number(fault: CodecFault) -> u64
-    ensures { result ≡ codec_number fault }
-{
-    match fault {
-        CodecFault::Magic => 1,
-        CodecFault::Params => 2,
-        CodecFault::Version => 3,
-        CodecFault::Kind => 4,
-        CodecFault::Zeros => 5,
-        CodecFault::Count => 6,
-        CodecFault::NameBytes => 7,
-        CodecFault::Order => 8,
-        CodecFault::Worn => 9,
-        CodecFault::Range => 10,
-    }
 }

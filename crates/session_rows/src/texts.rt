@@ -38,6 +38,14 @@ const BYTES: &[(CodecFault, &str)] = &[
     ),
     (CodecFault::Worn, "the sequence is worn out"),
     (CodecFault::Range, "a number is 2^48 or more"),
+    (
+        CodecFault::Entry,
+        "an entry reaches past the end of its log",
+    ),
+    (
+        CodecFault::Absent,
+        "an entry names an object that isn't there",
+    ),
 ];
 
 #[test]

@@ -1,9 +1,6 @@
 //! Counts of what files were found to be.
-ghost use Rattle.std.specs.Prelude.{◌<◌};
-
 use plain_layout::Refusal;
 use row_vectors::alike::{Parting, Seen};
-use slot_codec::CodecFault;
 use slot_pair::SlotFault;
 use std::io;
 
@@ -14,7 +11,7 @@ pub struct Tally {
     still: u64,
     moving: u64,
     slots: [u64; 4],
-    codecs: [u64; 10],
+    codecs: [u64; 12],
     rules: [u64; 12],
     differ: u64,
 }
@@ -26,7 +23,7 @@ impl Tally {
             still: 0,
             moving: 0,
             slots: [0; 4],
-            codecs: [0; 10],
+            codecs: [0; 12],
             rules: [0; 12],
             differ: 0,
         }
@@ -51,7 +48,7 @@ impl Tally {
             Refusal::Slot(SlotFault::NoGate) => one_more(&mut self.slots[2]),
             Refusal::Slot(SlotFault::SameSequence) => one_more(&mut self.slots[3]),
             Refusal::Slot(SlotFault::Codec(fault, _)) => {
-                one_more(&mut self.codecs[index_of(fault)]);
+                one_more(&mut self.codecs[usize::from(fault.number()) - 1]);
             }
             Refusal::Rule(rule @ 1..=12, _) => one_more(&mut self.rules[usize::from(rule) - 1]),
             Refusal::Slot(SlotFault::Disk) | Refusal::Rule(_, _) | Refusal::NoMemory => {
@@ -84,22 +81,4 @@ fn show_all(rt: &HostRuntime, what: &str, counts: &[u64]) -> io::Result<()> {
         println!(rt; "{what} {number}: {count}")?;
     }
     Ok(())
-}
-
-/// Where a fault in bytes is counted.
-fn index_of(fault: CodecFault) -> usize
-    ensures { result < 10 }
-{
-    match fault {
-        CodecFault::Magic => 0,
-        CodecFault::Params => 1,
-        CodecFault::Version => 2,
-        CodecFault::Kind => 3,
-        CodecFault::Zeros => 4,
-        CodecFault::Count => 5,
-        CodecFault::NameBytes => 6,
-        CodecFault::Order => 7,
-        CodecFault::Worn => 8,
-        CodecFault::Range => 9,
-    }
 }
