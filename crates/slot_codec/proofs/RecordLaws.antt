@@ -13,7 +13,7 @@ use Rattle.slot_codec.proofs.PartLaws.{StandsAt, bytes_at-more, number_spelled, 
 use Rattle.slot_codec.proofs.CapLaws.{record_len-long, record_len-low, record_len-short}
 use Rattle.slot_codec.specs.Readable.{IsDigest, IsRecord}
 use Rattle.slot_codec.specs.Reading.{are_zeros, digest_at, is_in_range, number_at, read_name, read_record, record_of}
-use Rattle.slot_codec.specs.Spelling.{AreBytes, digest_bytes, number, record_bytes, record_len, zeros}
+use Rattle.slot_codec.specs.Spelling.{AreBytes, digest_bytes, has_digests, number, record_bytes, record_len, zeros}
 use Rattle.slot_codec.proofs.StepLaws.{bind_from, bind_ok, from_ok, guard_from, guard_ok}
 use Rattle.slot_codec.specs.declared.codec.Record.{Record}
 use Rattle.slot_codec.specs.declared.codec.CodecFault.TheVariants as fault
@@ -74,17 +74,17 @@ digest_spelled : (version : ℕ) (bytes digest : List ℕ) → length bytes ≡ 
     → digest_at version bytes ≡ digest → bytes ≡ bytes_at bytes 0 80 ++ digest_bytes version digest
 unfolding digest_at
 digest_spelled version bytes digest len is =
-    elim (cases_Bool (version == 2)) [
+    elim (cases_Bool (has_digests version)) [
       | inl two ↦
           let whole : length bytes ≤ 112 = omega (arith, len, record_len-long version two) in
           let behind : bytes_at bytes 80 32 ≡ digest =
-          sym (cond-true (version == 2) (bytes_at bytes 80 32) (zeros 32) two) ∙ is in
+          sym (cond-true (has_digests version) (bytes_at bytes 80 32) (zeros 32) two) ∙ is in
           sym (take_all 112 bytes whole) ∙ sym (bytes_at-more bytes 0 80 32)
-          ∙ ap (λ xs. bytes_at bytes 0 80 ++ xs) (behind ∙ sym (cond-true (version == 2) digest [] two))
+          ∙ ap (λ xs. bytes_at bytes 0 80 ++ xs) (behind ∙ sym (cond-true (has_digests version) digest [] two))
       | inr other ↦
           let whole : length bytes ≤ 80 = omega (arith, len, record_len-short version other) in
           sym (take_all 80 bytes whole) ∙ sym (append-nil (bytes_at bytes 0 80))
-          ∙ ap (λ xs. bytes_at bytes 0 80 ++ xs) (sym (cond-false (version == 2) digest [] other))
+          ∙ ap (λ xs. bytes_at bytes 0 80 ++ xs) (sym (cond-false (has_digests version) digest [] other))
     ]
 
 -- what is read as a record is its spelling
@@ -114,10 +114,10 @@ pub digest_fits : (version : ℕ) (bytes : List ℕ) → length bytes ≡ record
     → IsDigest version (digest_at version bytes)
 unfolding digest_at
 digest_fits version bytes len =
-    elim (cases_Bool (version == 2)) [
+    elim (cases_Bool (has_digests version)) [
       | inl two ↦
           let is : digest_at version bytes
-          ≡ bytes_at bytes 80 32 = cond-true (version == 2) (bytes_at bytes 80 32) (zeros 32) two in
+          ≡ bytes_at bytes 80 32 = cond-true (has_digests version) (bytes_at bytes 80 32) (zeros 32) two in
           record {
             len = ap length is ∙ length-bytes_at bytes 80 32
                 (omega (arith, len, record_len-long version two));
@@ -125,7 +125,7 @@ digest_fits version bytes len =
           }
       | inr other ↦
           let is : digest_at version bytes
-          ≡ zeros 32 = cond-false (version == 2) (bytes_at bytes 80 32) (zeros 32) other in
+          ≡ zeros 32 = cond-false (has_digests version) (bytes_at bytes 80 32) (zeros 32) other in
           record { len = ap length is; plain = λ _. is }
     ]
 
@@ -172,12 +172,12 @@ digest_stands : (version : ℕ) (bytes digest : List ℕ) → IsDigest version d
     → StandsAt bytes 80 (digest_bytes version digest) → digest_at version bytes ≡ digest
 unfolding digest_at
 digest_stands version bytes digest fits all =
-    elim (cases_Bool (version == 2)) [
+    elim (cases_Bool (has_digests version)) [
       | inl two ↦
-          let is : digest_bytes version digest ≡ digest = cond-true (version == 2) digest [] two in
-          cond-true (version == 2) (bytes_at bytes 80 32) (zeros 32) two
+          let is : digest_bytes version digest ≡ digest = cond-true (has_digests version) digest [] two in
+          cond-true (has_digests version) (bytes_at bytes 80 32) (zeros 32) two
           ∙ stands_bytes bytes 80 32 digest fits.len (subst (StandsAt bytes 80) is all)
-      | inr other ↦ cond-false (version == 2) (bytes_at bytes 80 32) (zeros 32) other
+      | inr other ↦ cond-false (has_digests version) (bytes_at bytes 80 32) (zeros 32) other
           ∙ sym (fits.plain other)
     ]
 
@@ -221,16 +221,16 @@ record_read version r fits digested = record_from_parts version (record_bytes ve
 length-digest_bytes : (version : ℕ) (digest : List ℕ) → length digest ≡ 32
     → 80 + length (digest_bytes version digest) ≡ record_len version
 length-digest_bytes version digest len =
-    elim (cases_Bool (version == 2)) [
+    elim (cases_Bool (has_digests version)) [
       | inl two ↦ omega (
         arith,
-        ap length (cond-true (version == 2) digest [] two),
+        ap length (cond-true (has_digests version) digest [] two),
         len,
         record_len-long version two,
       )
       | inr other ↦ omega (
         arith,
-        ap length (cond-false (version == 2) digest [] other),
+        ap length (cond-false (has_digests version) digest [] other),
         record_len-short version other,
       )
     ]

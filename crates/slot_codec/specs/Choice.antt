@@ -5,7 +5,7 @@ use Rattle.std.specs.Ordering.{is_lt}
 use Rattle.byte_ranges.specs.Ranges.{bytes_at}
 use Rattle.byte_ranges.specs.Lists.{◌>>=◌}
 use Rattle.slot_codec.specs.Names.{name_cmp}
-use Rattle.slot_codec.specs.Spelling.{gate_open, slot_at, gate_at, format_gate_at, head_len, superblock_len, header_len, record_len, digest_len, zeros}
+use Rattle.slot_codec.specs.Spelling.{digest_len, format_gate_at, gate_at, gate_open, has_digests, head_len, header_len, record_len, slot_at, superblock_len, zeros}
 use Rattle.slot_codec.specs.Reading.{number_at, read_superblock, read_header, read_record}
 use Rattle.slot_codec.specs.declared.codec.SuperBlock.{SuperBlock}
 use Rattle.slot_codec.specs.declared.codec.Header.{Header}
@@ -134,7 +134,7 @@ digest_entry r = (r.name, r.digest)
 -- in version 2, the digests of records by their names
 abbrev pub digests_in : ℕ → List Record → Option Digests
 digests_in version records =
-    if version == 2 then Some (fin.from_entries (map digest_entry records)) else None
+    if has_digests version then Some (fin.from_entries (map digest_entry records)) else None
 
 -- the table of a slot in use with these records
 abbrev pub table_with : Chosen → List Record → SlotTable

@@ -33,7 +33,7 @@ pub use laws::{
 };
 pub use lengths::{
     DIGEST_LEN, ENTRY_HEAD_LEN, GATE_OPEN, HEADER_LEN, PAIR_LEN, RECORD_LEN, SUPERBLOCK_LEN, cap,
-    head_len, record_len, slot_len,
+    has_digests, head_len, record_len, slot_len,
 };
 pub use name::Name;
 pub use read::{read_name, read_record, read_record_after, read_superblock};
