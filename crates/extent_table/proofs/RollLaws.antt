@@ -12,7 +12,7 @@ use Rattle.std.specs.FinMap as fin
 use Rattle.std.specs.FinMap.{nat_cmp-IsAntisymmetric, slice_cmp-IsAntisymmetric}
 use Rattle.slot_codec.specs.Names.{is_name, name_cmp}
 use Rattle.slot_codec.specs.Choice.{Digests, digest_entry, digests_in, plain}
-use Rattle.slot_codec.specs.Spelling.{digest_len}
+use Rattle.slot_codec.specs.Spelling.{digest_len, has_digests}
 use Rattle.slot_codec.specs.declared.codec.Record.{Record}
 use Rattle.extent_table.specs.declared.spot.Spot.{Spot}
 use Rattle.extent_table.specs.Extents.{Spots, Extents, IsTable, digest_or_zeros, digests_seen, record_of, records_of, rolled, with_digest}
@@ -103,7 +103,7 @@ rolled-digests e table =
 pub rolled-seen : (version : ℕ) (e : Extents) → IsTable e
     → digests_in version (rolled e.now e.digests) ≡ digests_seen version e.digests
 rolled-seen version e table =
-    ap (λ (ds : Option Digests). cond (version == 2) ds None) (rolled-digests e table)
+    ap (λ (ds : Option Digests). cond (has_digests version) ds None) (rolled-digests e table)
 
 -- ---- one name more, behind all others
 
