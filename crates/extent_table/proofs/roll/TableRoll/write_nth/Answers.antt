@@ -1,5 +1,4 @@
 use Rattle.std.proofs.Common.{◌≡◌, ◌<◌, ◌++◌, Some, length, get_or, sym, take, ap, ◌∙◌, arith, option_map}
-use Rattle.std.proofs.lemmas.Bool.{eq-eqb, ne_eqb}
 use Rattle.std.proofs.lemmas.List.{length-map}
 use Rattle.std.specs.FinMap as fin
 use Rattle.std.specs.List.{slice_get}
@@ -55,7 +54,7 @@ write_digest-requires c =
     omega (
       arith,
       c.requires.len,
-      record_len-long c.args.version (eq-eqb c.args.version 2 c.if-version-eq2.true),
+      record_len-long c.args.version (sym c.has_digests.ensures ∙ c.if-has_digests.true),
     )
 
 -- the record of the rank, by what was read of its key
@@ -87,20 +86,21 @@ shown c low =
     c.self.invariant.cap c.self.invariant.digests c.self.invariant.kept_digests) in
     rolled-nth c.args.self.now is_table c.args.n _ _ _ entry digest
 
-pub returns-then-version-eq2 : goal.returns-then-version-eq2
-returns-then-version-eq2 c =
-    let path = goal.at.returns-then-version-eq2 c in
+pub returns-then-has_digests : goal.returns-then-has_digests
+returns-then-has_digests c =
+    let path = goal.at.returns-then-has_digests c in
     let digest : c.digest_there.result.now ≡ digest_in c.self.inside.digests.items c.index-key.result.now =
     c.digest_there.ensures.value ∙ ap (λ xs. digest_in xs c.index-key.result.now) c.deref.ensures.value in
     ap (option_map (record_bytes c.args.version))
     (shown path.After-spot_at-spot (within path.After-self))
-    ∙ ap Some (sym (record_more c.args.version _ _ _ _ c.if-version-eq2.true c.write_plain.ensures.record
+    ∙ ap Some (sym (record_more c.args.version _ _ _ _
+    (sym c.has_digests.ensures ∙ c.if-has_digests.true) c.write_plain.ensures.record
     (c.write_digest.ensures ∙ ap (λ xs. take 80 c.write_plain.new.out ++ xs) digest)))
 
-pub returns-else-version-eq2 : goal.returns-else-version-eq2
-returns-else-version-eq2 c =
-    let path = goal.at.returns-else-version-eq2 c in
+pub returns-else-has_digests : goal.returns-else-has_digests
+returns-else-has_digests c =
+    let path = goal.at.returns-else-has_digests c in
     ap (option_map (record_bytes c.args.version))
     (shown path.After-spot_at-spot (within path.After-self))
-    ∙ ap Some (sym (record_ends c.args.version _ _ _ (ne_eqb c.args.version 2 c.if-version-eq2.false)
+    ∙ ap Some (sym (record_ends c.args.version _ _ _ (sym c.has_digests.ensures ∙ c.if-has_digests.false)
     (omega arith) c.write_plain.ensures.record))
