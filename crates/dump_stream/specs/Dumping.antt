@@ -6,7 +6,7 @@ use Rattle.disk_face.specs.Devices.{Devices, devices}
 use Rattle.disk_face.specs.Frames.{Unchanged}
 use Rattle.disk_face.specs.States as disk
 use Rattle.disk_face.specs.Streams.{Puts, SinkState}
-use Rattle.slot_codec.specs.Spelling.{head_len}
+use Rattle.slot_codec.specs.Spelling.{has_digests, head_len}
 use Rattle.slot_pair.specs.Finding.{HasDiskCause}
 use Rattle.size_class.specs.declared.TheConstants.{SIZE_MAX}
 use Rattle.map_model.specs.Maps.{Map}
@@ -128,12 +128,12 @@ pub record CanClass (C : ℕ) : Type 0 where
   pub wide : SIZE_MAX < 2 ^ C
 
 -- The dump of the map that a file gives at the places of a table was put as far as can be, and nothing was
--- changed. In version 1 no object is damaged, whatever the disk tells.
+-- changed. Where the version has no digests no object is damaged, whatever the disk tells.
 pub record DumpsTable {T : Type 0} (C base version : ℕ) (table : Extents) (old new : Devices)
     (result : Result T DumpFault) : Type 0 where
   pub puts : IsTrue old.disk.tells → PutsDump C (digests_seen version table.digests)
       (read_at base old.disk.file table.now) old.sink new.sink result
-  pub plain : (version == 2) ≡ false → result ≢ Err why.Damaged
+  pub plain : has_digests version ≡ false → result ≢ Err why.Damaged
   pub causes : HasCauses old.disk new.disk old.sink new.sink result
   pub frame : Unchanged old.disk new.disk
 

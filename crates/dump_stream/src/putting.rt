@@ -1,7 +1,7 @@
 //! Putting the dump of a table.
-ghost use Rattle.std.specs.Prelude.{◌≡◌, ◌≢◌, ◌==◌, ◌^◌, ◌<◌, ◌≤◌, Err, IsTrue, false, length};
+ghost use Rattle.std.specs.Prelude.{◌≡◌, ◌≢◌, ◌^◌, ◌<◌, ◌≤◌, Err, IsTrue, false, length};
 ghost use Rattle.disk_face.specs.Frames.{Unchanged};
-ghost use Rattle.slot_codec.specs.Spelling.{head_len};
+ghost use Rattle.slot_codec.specs.Spelling.{has_digests, head_len};
 ghost use Rattle.extent_table.specs.Extents.{IsTable, digests_seen};
 ghost use Rattle.placement_model.specs.Reads.{EndWithin, read_at};
 ghost use Rattle.reopen.specs.Loads.{IsLoadedFrom, KeepsLoaded, unboxed};
@@ -14,13 +14,13 @@ use disk_face::{Disk, Sink};
 use extent_table::Table;
 use reopen::{BoxedLoaded, Loaded};
 use size_class::SIZE_MAX;
-use slot_codec::{Name, head_len};
+use slot_codec::{Name, has_digests, head_len};
 use thiserror::Error;
 
 /// Why a dump ends early.
 #[derive(Clone, Copy, Debug, PartialEq, Eq, Error)]
 pub enum DumpFault {
-    /// An object of a file of version 2 has another SHA-256 than its table has for it.
+    /// An object of a file whose table has digests has another SHA-256 than the table says.
     #[error("an object is damaged")]
     Damaged,
     #[error("the disk failed")]
@@ -105,7 +105,7 @@ fn dump_table<D: Disk, O: Sink, const C: usize>(
     ensures puts { IsTrue (D.state disk.old).tells → PutsDump C (digests_seen version table.now.digests)
         (read_at (head_len names) (D.state disk.old).file table.now.now) (O.state output.old)
         (O.state output.new) result }
-    ensures plain { (version == 2) ≡ false → result ≢ Err DumpFault.Damaged }
+    ensures plain { has_digests version ≡ false → result ≢ Err DumpFault.Damaged }
     ensures causes { HasCauses (D.state disk.old) (D.state disk.new) (O.state output.old)
         (O.state output.new) result }
     ensures frame { Unchanged (D.state disk.old) (D.state disk.new) }
@@ -136,7 +136,7 @@ pub(crate) fn put_objects<D: Disk, O: Sink>(
         → PutsSound (digests_seen version table.now.digests)
         (read_entries base (D.state disk.old).file table.now.now) (O.state output.old) (O.state output.new)
         result }
-    ensures plain { (version == 2) ≡ false → result ≢ Err DumpFault.Damaged }
+    ensures plain { has_digests version ≡ false → result ≢ Err DumpFault.Damaged }
     ensures causes { HasCauses (D.state disk.old) (D.state disk.new) (O.state output.old)
         (O.state output.new) result }
     ensures frame { Unchanged (D.state disk.old) (D.state disk.new) }
@@ -152,11 +152,11 @@ pub(crate) fn put_objects<D: Disk, O: Sink>(
     put_whole(output, texts)
 }
 
-/// The digest that a table has for a name: in version 1 none.
+/// The digest that a table has for a name, where its version has digests.
 fn digest_for(version: u8, table: &Table, name: &Name) -> Option<[u8; 32]>
     ensures { result ≡ digest_of (digests_seen version table.now.digests) name.now }
 {
-    if version == 2 {
+    if has_digests(version) {
         table.digest(name)
     } else {
         None

@@ -13,7 +13,7 @@ use command_face::StopReason;
 use disk_face::{Disk, Sink};
 use reopen::BoxedLoaded;
 use size_class::CLASSES;
-use slot_codec::{Name, head_len};
+use slot_codec::{Name, has_digests, head_len};
 use std::alloc::Global;
 
 /// Puts the bytes of the object of a name and nothing more. The disk stays as it is, and where a
@@ -93,11 +93,11 @@ fn located_in(loaded: &BoxedLoaded<CLASSES>, name: &Name) -> Result<Located, Sto
     }
 }
 
-/// The digest that the table of a file has for a name, which there is in version 2 alone.
+/// The digest that the table of a file has for a name, where its version has digests.
 fn digest_in(loaded: &BoxedLoaded<CLASSES>, name: &Name) -> Option<[u8; 32]>
     ensures { result ≡ digest_of (digests_loaded (unboxed loaded.now)) name.now }
 {
-    if loaded.header.version == 2 {
+    if has_digests(loaded.header.version) {
         loaded.table.digest(name)
     } else {
         None

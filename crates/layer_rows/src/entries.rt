@@ -3,8 +3,8 @@
 use crate::codec::{Row, put, put_all};
 use crate::rows::try_holds;
 use slot_codec::{
-    CodecFault, ENTRY_HEAD_LEN, EntryHead, Kind, PAIR_LEN, read_cell, read_entry_head, read_move, up,
-    write_entry_head, write_pair,
+    CodecFault, ENTRY_HEAD_LEN, EntryHead, Kind, PAIR_LEN, read_cell, read_entry_head, read_move,
+    up, write_entry_head, write_pair,
 };
 
 /// A head has its kind at 0, its boundary at 1, zeros from 2 on, the counts of cells at 7, of moved objects
@@ -37,20 +37,47 @@ const ROOMS: &[(u64, u8, Option<CodecFault>)] = &[
 ];
 
 /// Numbers of bytes, and the least multiples of 512 that aren't below them.
-const UPS: &[(u64, u64)] = &[(0, 0), (1, 512), (512, 512), (513, 1024), (272_072, 272_384)];
+const UPS: &[(u64, u64)] = &[
+    (0, 0),
+    (1, 512),
+    (512, 512),
+    (513, 1024),
+    (272_072, 272_384),
+];
 
 /// A pair, the least number that a cell may have and the cell's fault, and how many objects there are and the
 /// move's fault.
 const USES: &[(u64, u64, u64, Option<CodecFault>, u64, Option<CodecFault>)] = &[
     (6, 100, 0, None, 7, None),
     (6, 100, 6, None, 6, Some(CodecFault::Absent)),
-    (6, 100, 7, Some(CodecFault::Order), 0, Some(CodecFault::Absent)),
+    (
+        6,
+        100,
+        7,
+        Some(CodecFault::Order),
+        0,
+        Some(CodecFault::Absent),
+    ),
     (1055, 1, 0, None, 1056, None),
-    (1056, 1, 0, Some(CodecFault::Order), 1056, Some(CodecFault::Absent)),
+    (
+        1056,
+        1,
+        0,
+        Some(CodecFault::Order),
+        1056,
+        Some(CodecFault::Absent),
+    ),
     (1056, 0, 0, Some(CodecFault::Order), 1057, None),
     (0, 0, 0, Some(CodecFault::Range), 1, None),
     (0, 0xFFFF_FFFF_FFFF, 0, None, 1, None),
-    (0, 0x1_0000_0000_0000, 0, Some(CodecFault::Range), 1, Some(CodecFault::Range)),
+    (
+        0,
+        0x1_0000_0000_0000,
+        0,
+        Some(CodecFault::Range),
+        1,
+        Some(CodecFault::Range),
+    ),
 ];
 
 /// Pairs of numbers, and their bytes.
@@ -162,7 +189,11 @@ fn written_pair(first: u64, second: u64) -> [u8; PAIR_LEN] {
 }
 
 /// Whether a pair is read as it is, or has this fault.
-fn is_pair(read: Result<(u64, u64), CodecFault>, pair: (u64, u64), fault: Option<CodecFault>) -> bool {
+fn is_pair(
+    read: Result<(u64, u64), CodecFault>,
+    pair: (u64, u64),
+    fault: Option<CodecFault>,
+) -> bool {
     match read {
         Ok(found) => fault.is_none() && found == pair,
         Err(found) => Some(found) == fault,
@@ -172,7 +203,11 @@ fn is_pair(read: Result<(u64, u64), CodecFault>, pair: (u64, u64), fault: Option
 #[test]
 fn a_pair_of_numbers_is_written(rt: HostRuntime) {
     for (first, second, bytes) in PAIRS {
-        try_holds(&rt, written_pair(*first, *second) == *bytes, &(first, second));
+        try_holds(
+            &rt,
+            written_pair(*first, *second) == *bytes,
+            &(first, second),
+        );
     }
 }
 

@@ -1,9 +1,10 @@
 -- From the parts of a table to the table.
-use Rattle.std.specs.Prelude.{◌≡◌, ℕ, ◌==◌, List, [], map, None, Ok, is_some}
+use Rattle.std.specs.Prelude.{◌≡◌, ℕ, List, [], map, None, Ok, is_some}
 use Rattle.std.proofs.Common.{ap, inl, inr, sym, subst, ◌∙◌}
 use Rattle.std.proofs.lemmas.Bool.{cases_Bool, cond-true, cond-false}
 use Rattle.byte_ranges.specs.Lists.{◌>>=◌}
 use Rattle.slot_codec.specs.Choice.{Chosen, slot_in_use, chosen, digests_in, plain, records_of, table_of, table_with}
+use Rattle.slot_codec.specs.Spelling.{has_digests}
 use Rattle.slot_codec.specs.declared.codec.Record.{Record}
 use Rattle.slot_codec.proofs.StepLaws.{bind_ok, from_ok}
 use Rattle.slot_pair.specs.Finding.{Refuses, chosen_of}
@@ -33,11 +34,11 @@ no_table classes size_max file (refusal.Slot f) h = h
 no_table classes size_max file (refusal.Rule number at) h = absurd h
 no_table classes size_max file refusal.NoMemory h = h
 
--- there are digests in version 2 alone
-has_digests : (version : ℕ) (rs : List Record) → is_some (digests_in version rs) ≡ (version == 2)
-has_digests version rs = elim (cases_Bool (version == 2)) [
-  | inl is ↦ ap is_some (cond-true (version == 2) _ None is) ∙ sym is
-  | inr other ↦ ap is_some (cond-false (version == 2) _ None other) ∙ sym other
+-- there are digests where the version has them
+are_digested : (version : ℕ) (rs : List Record) → is_some (digests_in version rs) ≡ has_digests version
+are_digested version rs = elim (cases_Bool (has_digests version)) [
+  | inl is ↦ ap is_some (cond-true (has_digests version) _ None is) ∙ sym is
+  | inr other ↦ ap is_some (cond-false (has_digests version) _ None other) ∙ sym other
 ]
 
 -- the table
@@ -52,7 +53,7 @@ a_table file o h good =
     (map plain read.0) o.table.records.items read.2 in
     record {
       digests = digests_in o.table.header.version read.0;
-      digested = has_digests o.table.header.version read.0;
+      digested = are_digested o.table.header.version read.0;
       read = by_records file c h ∙ ap (λ x. x >>= with_records c) read.1
           ∙ ap (λ rs. Ok (record (table_with c read.0) { records = rs })) same;
     }

@@ -1,8 +1,8 @@
 -- A file that was opened, and why one isn't.
-use Rattle.std.specs.Prelude.{◌≡◌, ℕ, ◌==◌, List, Option, Ok, is_some}
+use Rattle.std.specs.Prelude.{◌≡◌, ℕ, List, Option, Ok, is_some}
 use Rattle.slot_codec.specs.Choice as choice
 use Rattle.slot_pair.specs.Finding.{Refuses, chosen_of}
-use Rattle.slot_codec.specs.Spelling.{head_len}
+use Rattle.slot_codec.specs.Spelling.{has_digests, head_len}
 use Rattle.segment_layout.specs.Books.{with_digests}
 use Rattle.table_rules.specs.Opening.{OpensBy, placed_table}
 use Rattle.table_rules.specs.Rules.{FirstBroken}
@@ -20,10 +20,10 @@ table_seen o digests = record {
   digests = digests;
 }
 
--- The file's table was read, whose digests are there in version 2 alone.
+-- The file's table was read, whose digests are there where its version has them.
 pub record IsReadFrom (file : List ℕ) (o : Opened) : Type 0 where
   pub digests : Option choice.Digests
-  pub digested : is_some digests ≡ (o.table.header.version == 2)
+  pub digested : is_some digests ≡ has_digests o.table.header.version
   pub read : choice.table_of file ≡ Ok (table_seen o digests)
 
 -- The file opens by that table, to the map and the book that it gives.

@@ -1,19 +1,21 @@
 //! What is kept as the digest of an object.
-ghost use Rattle.std.specs.Prelude.{◌≡◌, ◌==◌, true};
+ghost use Rattle.std.specs.Prelude.{◌≡◌, true};
 ghost use Rattle.sha2.specs.Sha256.{sha256};
+ghost use Rattle.slot_codec.specs.Spelling.{has_digests};
 
 use crate::Store;
 use sha2::{Digest, Sha256};
+use slot_codec::has_digests;
 
 /// What a table has of an object that has no digest.
 const NONE: &[u8; 32] = &[0; 32];
 
-/// What a table of a version, 1 or 2, is given as the digest of an object: in version 2 the SHA-256 of
-/// its bytes, and in version 1, whose records have none, zeros. It takes no memory.
+/// What a table of a version is given as the digest of an object: the SHA-256 of its bytes, and in
+/// version 1, whose records have none, zeros. It takes no memory.
 pub(crate) fn digest_of(version: u8, bytes: &[u8]) -> [u8; 32]
-    ensures own { (version == 2) ≡ true → result ≡ sha256 bytes.now }
+    ensures own { has_digests version ≡ true → result ≡ sha256 bytes.now }
 {
-    if version == 2 {
+    if has_digests(version) {
         Sha256::digest(bytes)
     } else {
         *NONE

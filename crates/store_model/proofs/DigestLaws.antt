@@ -1,12 +1,12 @@
 -- What a change does to digests, and what of a book doesn't depend on them.
 use Rattle.std.specs.Prelude.{◌≡◌, ◌⊎◌, ℕ, ◌+◌, ◌-◌, ◌<◌, ◌≤◌, ◌==◌, ◌||◌, Bool, true, false, cond, if◌then◌else◌, List, Option, Some, None, option_map, IsSome, IsTrue, refl}
 use Rattle.std.proofs.Common.{arith, sym, ◌∙◌, ap, subst, inl, inr}
-use Rattle.std.proofs.lemmas.Bool.{cases_Bool, cond-false, cond-true, eqb-true}
+use Rattle.std.proofs.lemmas.Bool.{cases_Bool, cond-false, cond-true, eqb-true, false≢true}
 use Rattle.std.specs.FinMap as fin
 use Rattle.sha2.specs.Sha256.{sha256}
 use Rattle.slot_codec.specs.Choice.{Digests}
 use Rattle.slot_codec.specs.Reading.{is_version}
-use Rattle.slot_codec.specs.Spelling.{cap}
+use Rattle.slot_codec.specs.Spelling.{cap, has_digests}
 use Rattle.slot_codec.proofs.CapLaws.{cap-one}
 use Rattle.map_model.specs.Maps.{Map}
 use Rattle.map_model.specs.Requests.{Change}
@@ -49,15 +49,29 @@ or_false false is = is
 pub is_one : (v : ℕ) → IsTrue (is_version v) → (v == 2) ≡ false → v ≡ 1
 is_one v known is = eqb-true v 1 (or_false (v == 1) (subst (λ (z : Bool). (v == 1 || z) ≡ true) is known))
 
+-- no such version has digests but 2
+pub is_two : (v : ℕ) → IsTrue (is_version v) → has_digests v ≡ true → v ≡ 2
+is_two v known digested = elim (cases_Bool (v == 2)) [
+  | inl two ↦ eqb-true v 2 two
+  | inr other ↦ absurd (false≢true (subst (λ n. has_digests n ≡ true) (is_one v known other) digested))
+]
+
+either_false : (b c : Bool) → (b || c) ≡ false → b ≡ false
+either_false true c is = is
+either_false false c is = refl
+
+pub is_plain : (v : ℕ) → IsTrue (is_version v) → has_digests v ≡ false → v ≡ 1
+is_plain v known plain = is_one v known (either_false (v == 2) (v == 3) plain)
+
 -- the version of a book is that of the table whose digests it has
 pub version_seen : (v : ℕ) (ds : Digests) (b : Book) → IsTrue (is_version v)
     → version_of (with_digests (digests_seen v ds) b) ≡ v
-version_seen v ds b known = by (v == 2) refl
+version_seen v ds b known = by (has_digests v) refl
   where
-    by : (two : Bool) → (v == 2) ≡ two
-        → version_of (with_digests (if two then Some ds else None) b) ≡ v
-    by true is = sym (eqb-true v 2 is)
-    by false is = sym (is_one v known is)
+    by : (digested : Bool) → has_digests v ≡ digested
+        → version_of (with_digests (if digested then Some ds else None) b) ≡ v
+    by true is = sym (is_two v known is)
+    by false is = sym (is_plain v known is)
 
 -- a change keeps it
 pub version_after : (c : Change) (ds : Option Map) (b e : Book)
@@ -75,7 +89,7 @@ version_with name digest (Some ds) b e = refl
 -- where a name was taken out
 pub seen_gone : (v : ℕ) (ds : Digests) (name : List ℕ)
     → digests_seen v (fin.remove ds name) ≡ digests_after (del_of name) (digests_seen v ds)
-seen_gone v ds name = by (v == 2)
+seen_gone v ds name = by (has_digests v)
   where
     by : (two : Bool) → ◌≡◌ {A = Option Map} (if two then Some (fin.remove ds name) else None)
         (digests_after (del_of name) (if two then Some ds else None))
@@ -85,7 +99,7 @@ seen_gone v ds name = by (v == 2)
 -- where it was given one
 pub seen_with : (v : ℕ) (ds : Digests) (name digest : List ℕ)
     → digests_seen v (fin.insert ds name digest) ≡ digests_with name digest (digests_seen v ds)
-seen_with v ds name digest = by (v == 2)
+seen_with v ds name digest = by (has_digests v)
   where
     by : (two : Bool) → ◌≡◌ {A = Option Map} (if two then Some (fin.insert ds name digest) else None)
         (digests_with name digest (if two then Some ds else None))
@@ -94,10 +108,10 @@ seen_with v ds name digest = by (v == 2)
 
 -- what is given as an object's digest is its own
 pub digest_given : (v : ℕ) (ds : Digests) (object digest : List ℕ)
-    → ((v == 2) ≡ true → digest ≡ sha256 object) → IsDigestFor (digests_seen v ds) object digest
-digest_given v ds object digest given = by (v == 2) refl
+    → (has_digests v ≡ true → digest ≡ sha256 object) → IsDigestFor (digests_seen v ds) object digest
+digest_given v ds object digest given = by (has_digests v) refl
   where
-    by : (two : Bool) → (v == 2) ≡ two → IsDigestFor (if two then Some ds else None) object digest
+    by : (digested : Bool) → has_digests v ≡ digested → IsDigestFor (if digested then Some ds else None) object digest
     by true is = given is
     by false is = tt
 
@@ -111,26 +125,27 @@ with_own (Some ds) name object digest is = ap (λ (d : List ℕ). digests_with n
 module _ (v names : ℕ) (e : Extents) (known : IsTrue (is_version v)) (narrowed : v ≡ 2 → IsNarrowed names e)
   where
     pub narrowed_few : IsTable e → e.names ≡ names → fin.len e.now ≤ cap names v
-    narrowed_few table room = elim (cases_Bool (v == 2)) as (λ _. fin.len e.now ≤ cap names v) [
-      | inl two ↦
-          let n = narrowed (eqb-true v 2 two) in
-          omega (arith, n.few, n.cap, ap (cap names) (eqb-true v 2 two))
-      | inr other ↦ omega (
+    narrowed_few table room = elim (cases_Bool (has_digests v)) as (λ _. fin.len e.now ≤ cap names v) [
+      | inl digested ↦
+          let two = is_two v known digested in
+          let n = narrowed two in
+          omega (arith, n.few, n.cap, ap (cap names) two)
+      | inr plain ↦ omega (
         arith,
         table.now_room,
         room,
         cap-one names,
-        ap (cap names) (is_one v known other),
+        ap (cap names) (is_plain v known plain),
       )
     ]
 
     pub narrowed_kept : digests_seen v e.digests ≡ digests_seen v e.kept_digests
-    narrowed_kept = by (v == 2) refl
+    narrowed_kept = by (has_digests v) refl
       where
-        by : (two : Bool) → (v == 2) ≡ two
-            → ◌≡◌ {A = Option Map} (if two then Some e.digests else None)
-            (if two then Some e.kept_digests else None)
-        by true is = ap (λ (d : Map). Some d) (narrowed (eqb-true v 2 is)).kept
+        by : (digested : Bool) → has_digests v ≡ digested
+            → ◌≡◌ {A = Option Map} (if digested then Some e.digests else None)
+            (if digested then Some e.kept_digests else None)
+        by true is = ap (λ (d : Map). Some d) (narrowed (is_two v known is)).kept
         by false is = refl
 
 -- ---- how many names there are
