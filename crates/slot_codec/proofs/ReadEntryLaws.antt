@@ -33,7 +33,7 @@ gap_read (suc n) file at there =
     ap (λ bytes. placed_at at (gap_step tt bytes) >>= read_items gap_step 1 n file (at + 1)) here
     ∙ gap_read n file (at + 1) (stands_right file at (at + 1) (zeros 1) (zeros n) refl there)
 
-gap_back : (n : ℕ) (file : List ℕ) (at : ℕ) → at + n ≤ length file → read_items gap_step 1 n file at tt ≡ Ok tt
+pub gap_back : (n : ℕ) (file : List ℕ) (at : ℕ) → at + n ≤ length file → read_items gap_step 1 n file at tt ≡ Ok tt
     → bytes_at file at n ≡ zeros n
 gap_back zero file at within read = refl
 gap_back (suc n) file at within read =
@@ -137,14 +137,14 @@ changes_read cap room file at x e few is p =
     (λ left. read_items put_step 112 h.puts file (at + puts_from h) left) left b ∙ c
 
 -- behind its head, cells and lists an entry has a gap, and not too many names
-abbrev entry_ended : ℕ → List ℕ → ℕ → EntryHead → Given → Rows → Result Logged SlotRefusal
+abbrev pub entry_ended : ℕ → List ℕ → ℕ → EntryHead → Given → Rows → Result Logged SlotRefusal
 entry_ended cap file at h given rows =
     read_items gap_step 1 (entry_room h - entry_len h) file (at + entry_len h) tt >>= λ none.
     if nat_lt cap (fin.len rows) then Err (codec fault.Count at) else
     Ok (record { header = record given.header { count = fin.len rows }; rows = rows })
 
 -- what is read behind the head
-abbrev entry_behind : ℕ → List ℕ → ℕ → Logged → EntryHead → Result Logged SlotRefusal
+abbrev pub entry_behind : ℕ → List ℕ → ℕ → Logged → EntryHead → Result Logged SlotRefusal
 entry_behind cap file at x h =
     if nat_le (log_worn_from h.kind) (x.header.sequence + 1) then Err (codec fault.Worn at) else
     (read_items cell_step 16 h.cells file (at + 56) (record { next = 0; header = begun x.header h })
