@@ -1,5 +1,5 @@
 -- Logs end at a closed gate, and files that are alike up to there have one log.
-use Rattle.std.proofs.Common.{inl, inr, ◌≡◌, ℕ, zero, suc, ◌+◌, ◌<◌, ◌≤◌, true, false, ◌&&◌, List, length, refl, sym, ap, ◌∙◌, subst, arith}
+use Rattle.std.proofs.Common.{inl, inr, ◌≡◌, ℕ, zero, suc, ◌+◌, ◌*◌, ◌<◌, ◌≤◌, true, false, ◌&&◌, List, length, refl, sym, ap, ◌∙◌, subst, arith}
 use Rattle.std.proofs.lemmas.Bool.{and_from, and_parts, lt-ltb, ltb-true, cases_Bool, cond-true, cond-false}
 use Rattle.std.specs.Prelude.{◌==◌, if◌then◌else◌, nat_lt}
 use Rattle.std.specs.Int.{w64, from_le_bytes}
@@ -20,7 +20,7 @@ walk_closed step (suc n) file top at x h =
     (ap (λ b. b && nat_lt (at + room_at file at) top) h)
 
 -- it ends no earlier than it begins
-walk_grows : {T : Type 0} (step : List ℕ → ℕ → T → T) (n : ℕ) (file : List ℕ) (top at : ℕ) (x : T)
+pub walk_grows : {T : Type 0} (step : List ℕ → ℕ → T → T) (n : ℕ) (file : List ℕ) (top at : ℕ) (x : T)
     → at ≤ (walk step n file top at x).1
 walk_grows step zero file top at x = omega arith
 walk_grows step (suc n) file top at x =
@@ -56,21 +56,21 @@ same_len a b at end head in_a in_b same =
     omega (arith, c, m, g, p)
 
 -- and with the gap behind it
-same_room : (a b : List ℕ) (at end : ℕ) → at + 56 ≤ end → end ≤ length a → end ≤ length b
+pub same_room : (a b : List ℕ) (at end : ℕ) → at + 56 ≤ end → end ≤ length a → end ≤ length b
     → SameWithin at end a b → room_at b at ≡ room_at a at
 same_room a b at end head in_a in_b same = ap up (same_len a b at end head in_a in_b same)
 
 -- what is known of an entry that goes on
-record GoesOn (file : List ℕ) (top at : ℕ) : Type 0 where
-  gate : is_open file at ≡ true
-  whole : at + room_at file at < top
+pub record GoesOn (file : List ℕ) (top at : ℕ) : Type 0 where
+  pub gate : is_open file at ≡ true
+  pub whole : at + room_at file at < top
 
-goes_on_parts : (file : List ℕ) (top at : ℕ) → goes_on file top at ≡ true → GoesOn file top at
+pub goes_on_parts : (file : List ℕ) (top at : ℕ) → goes_on file top at ≡ true → GoesOn file top at
 goes_on_parts file top at h =
     let parts = and_parts (is_open file at) (nat_lt (at + room_at file at) top) h in
     record { gate = parts.0; whole = ltb-true (at + room_at file at) top parts.1 }
 
-goes_on_from : (file : List ℕ) (top at : ℕ) → GoesOn file top at → goes_on file top at ≡ true
+pub goes_on_from : (file : List ℕ) (top at : ℕ) → GoesOn file top at → goes_on file top at ≡ true
 goes_on_from file top at p =
     and_from (is_open file at) (nat_lt (at + room_at file at) top) p.gate
     (lt-ltb (at + room_at file at) top p.whole)
@@ -177,3 +177,92 @@ entry_there step n a b top at end x y local in_a in_b was closed same whole next
     let through : GoesThrough step (n + 1) 1 b top at end x y =
     subst (λ p. GoesThrough step (n + 1) 1 b top at p.1 x p.0) was t in
     through.same ∙ at_end step through.fuel b top end y through.left whole next
+
+-- ---- enough fuel
+
+stops : (file : List ℕ) (top at : ℕ) → top ≤ at + 512 → goes_on file top at ≡ false
+stops file top at low =
+    elim (cases_Bool (goes_on file top at)) [
+      | inl on ↦
+          let g = goes_on_parts file top at on in
+          let long : 512 ≤ room_at file at = omega arith in
+          absurd (omega (arith, g.whole, long, low))
+      | inr off ↦ off
+    ]
+
+-- with fuel for as many entries as there is room for, it ends where none goes on
+pub walk_ends : {T : Type 0} (step : List ℕ → ℕ → T → T) (n : ℕ) (file : List ℕ) (top at : ℕ) (x : T)
+    → top ≤ at + 512 * (n + 1) → goes_on file top (walk step n file top at x).1 ≡ false
+walk_ends step zero file top at x enough = stops file top at (omega (arith, enough))
+walk_ends step (suc n) file top at x enough =
+    let len = room_at file at in
+    let more = walk step n file top (at + len) (step file at x) in
+    elim (cases_Bool (goes_on file top at)) [
+      | inl on ↦
+          let long : 512 ≤ len = omega arith in
+          let is : (walk step (suc n) file top at x).1 ≡ more.1 =
+          ap (λ p. p.1) (cond-true (goes_on file top at) more (x, at) on) in
+          ap (goes_on file top) is
+          ∙ walk_ends step n file top (at + len) (step file at x) (omega (arith, enough, long))
+      | inr off ↦
+          let is : (walk step (suc n) file top at x).1 ≡ at =
+          ap (λ p. p.1) (cond-false (goes_on file top at) more (x, at) off) in
+          ap (goes_on file top) is ∙ off
+    ]
+
+-- and more fuel changes nothing
+pub walk_more : {T : Type 0} (step : List ℕ → ℕ → T → T) (n : ℕ) (file : List ℕ) (top at : ℕ) (x : T)
+    → top ≤ at + 512 * (n + 1) → walk step (suc n) file top at x ≡ walk step n file top at x
+walk_more step zero file top at x enough =
+    cond-false (goes_on file top at) (step file at x, at + room_at file at) (x, at)
+    (stops file top at (omega (arith, enough)))
+walk_more step (suc n) file top at x enough =
+    let len = room_at file at in
+    let long : 512 ≤ len = omega arith in
+    let later = walk_more step n file top (at + len) (step file at x) (omega (arith, enough, long)) in
+    ap (λ (p : _ × ℕ). if goes_on file top at then p else (x, at)) later
+
+-- ---- two steps
+
+-- steps go through the same entries
+pub walk_beside : {T U : Type 0} (step : List ℕ → ℕ → T → T) (other : List ℕ → ℕ → U → U) (n : ℕ)
+    (file : List ℕ) (top at : ℕ) (x : T) (u : U)
+    → (walk step n file top at x).1 ≡ (walk other n file top at u).1
+walk_beside step other zero file top at x u = refl
+walk_beside step other (suc n) file top at x u =
+    let len = room_at file at in
+    let a = walk step n file top (at + len) (step file at x) in
+    let b = walk other n file top (at + len) (other file at u) in
+    elim (cases_Bool (goes_on file top at)) [
+      | inl on ↦
+          ap (λ p. p.1) (cond-true (goes_on file top at) a (x, at) on)
+          ∙ walk_beside step other n file top (at + len) (step file at x) (other file at u)
+          ∙ sym (ap (λ p. p.1) (cond-true (goes_on file top at) b (u, at) on))
+      | inr off ↦
+          ap (λ p. p.1) (cond-false (goes_on file top at) a (x, at) off)
+          ∙ sym (ap (λ p. p.1) (cond-false (goes_on file top at) b (u, at) off))
+    ]
+
+-- and keep what each of them keeps
+pub walk_relates : {T U : Type 0} (R : T → U → Type 0) (step : List ℕ → ℕ → T → T)
+    (other : List ℕ → ℕ → U → U)
+    → ((file : List ℕ) (at : ℕ) (x : T) (u : U) → R x u → R (step file at x) (other file at u))
+    → (n : ℕ) (file : List ℕ) (top at : ℕ) (x : T) (u : U) → R x u
+    → R (walk step n file top at x).0 (walk other n file top at u).0
+walk_relates R step other each zero file top at x u r = r
+walk_relates R step other each (suc n) file top at x u r =
+    let len = room_at file at in
+    let a = walk step n file top (at + len) (step file at x) in
+    let b = walk other n file top (at + len) (other file at u) in
+    elim (cases_Bool (goes_on file top at)) [
+      | inl on ↦
+          let later : R a.0 b.0 = walk_relates R step other each n file top (at + len) (step file at x)
+          (other file at u) (each file at x u r) in
+          subst (λ p. R p.0 (walk other (suc n) file top at u).0)
+          (sym (cond-true (goes_on file top at) a (x, at) on))
+          (subst (λ q. R a.0 q.0) (sym (cond-true (goes_on file top at) b (u, at) on)) later)
+      | inr off ↦
+          subst (λ p. R p.0 (walk other (suc n) file top at u).0)
+          (sym (cond-false (goes_on file top at) a (x, at) off))
+          (subst (λ q. R x q.0) (sym (cond-false (goes_on file top at) b (u, at) off)) r)
+    ]

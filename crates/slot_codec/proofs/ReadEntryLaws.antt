@@ -224,3 +224,16 @@ length-entry_bytes cap room x e few is =
       l.gone,
       l.puts,
     )
+
+-- its head stands in front
+pub head_stands : (file : List ℕ) (at : ℕ) (e : Entry) → StandsAt file at (entry_bytes e)
+    → StandsAt file at (entry_head_bytes e.head)
+head_stands file at e there =
+    let a = entry_head_bytes e.head in
+    let b = flat_map pair_bytes e.cells in
+    let c = flat_map pair_bytes e.moved in
+    let d = flat_map name_bytes e.gone in
+    let p = flat_map (record_bytes 2) e.puts in
+    stands_left file at a b (stands_left file at (a ++ b) c (stands_left file at (a ++ b ++ c) d
+    (stands_left file at (a ++ b ++ c ++ d) p (stands_left file at (a ++ b ++ c ++ d ++ p)
+    (zeros (entry_room e.head - entry_len e.head)) there))))
