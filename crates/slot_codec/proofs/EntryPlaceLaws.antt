@@ -1,5 +1,5 @@
 -- An entry rests on its own bytes and those of the gap behind it.
-use Rattle.std.proofs.Common.{◌≡◌, ℕ, ◌+◌, ◌-◌, ◌*◌, ◌/◌, ◌<◌, ◌≤◌, true, false, not, ◌||◌, ◌&&◌, List, length, refl, sym, ap, ◌∙◌, subst, arith}
+use Rattle.std.proofs.Common.{◌≡◌, ℕ, ◌+◌, ◌-◌, ◌*◌, ◌/◌, ◌%◌, ◌<◌, ◌≤◌, true, false, not, ◌||◌, ◌&&◌, List, length, refl, sym, ap, ◌∙◌, subst, arith}
 use Rattle.std.proofs.lemmas.Bool.{ltb-true, not-false}
 use Rattle.std.specs.FinMap as fin
 use Rattle.std.specs.Int.{w64, from_le_bytes}
@@ -134,3 +134,14 @@ pub log_step_local : (cap top : ℕ) → IsLocal (log_step cap top)
 log_step_local cap top a b at x in_a in_b same =
     bind_same x (read_entry cap top a at) (read_entry cap top b at)
     (λ y got. entry_same cap top a b at y in_a in_b same)
+
+-- ---- sectors
+
+-- an entry that begins at a multiple of 512 has the next gate at one
+pub next_multiple : (at : ℕ) (h : EntryHead) → at % 512 ≡ 0 → (at + entry_room h) % 512 ≡ 0
+next_multiple at h from = omega (arith, from)
+
+-- and no sector of 512 bytes with a byte of it has one of what is written behind it
+pub next_apart : (at : ℕ) (h : EntryHead) → at % 512 ≡ 0
+    → (at + entry_len h - 1) / 512 < (at + entry_room h) / 512
+next_apart at h from = omega (arith, from)
