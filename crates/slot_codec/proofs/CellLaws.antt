@@ -1,26 +1,26 @@
 -- The cells of a header that aren't 0 give its capacities and numbers back.
 use Rattle.std.proofs.Common.{inl, inr, ◌≡◌, ◌⊎◌, ℕ, zero, suc, ◌+◌, ◌-◌, ◌*◌, ◌/◌, ◌%◌, ◌<◌, ◌≤◌, ◌^◌, Bool, true, false, not, ◌&&◌, List, [], ◌∷◌, length, map, refl, sym, ap, ◌∙◌, subst, arith}
-use Rattle.std.proofs.lemmas.Bool.{and_parts, cases_Bool, cases_lt, cond-false, cond-true, eqb-true, eqb-false, le-ltb, lt-ltb, ltb-true, not-false, cases_eq}
+use Rattle.std.proofs.lemmas.Bool.{and_parts, cases_Bool, cases_lt, cond-false, cond-true, eqb-true, eqb-false, le-ltb, lt-ltb, ltb-true, cases_eq}
 use Rattle.std.proofs.lemmas.List.{get_or-replicate, get_or-set_other, get_or-set_same, get_or_default, length-map, length-replicate, length-set, same_lists}
 use Rattle.std.proofs.lemmas.List.Folds.{list_all_at}
 use Rattle.std.proofs.lemmas.List.Sums.{count_by-le-length, length-filter}
 use Rattle.std.proofs.lemmas.Grind.{same_number_lists}
 use Rattle.std.specs.List.{list_all}
-use Rattle.std.specs.Prelude.{◌==◌, IsTrue, cond, filter, if◌then◌else◌, nat_lt, replicate, slice_index, slice_index_or, slice_set}
+use Rattle.std.specs.Prelude.{◌==◌, IsTrue, cond, filter, nat_lt, replicate, slice_index, slice_index_or, slice_set}
 use Rattle.byte_ranges.specs.Lists.{below, counting_from}
 use Rattle.byte_ranges.proofs.ListLaws.{length-below}
 use Rattle.slot_codec.specs.Cells.{cell_of, cells_of, header_cells, with_cell, with_used, without_cells}
 use Rattle.slot_codec.specs.Items.{AreItems, after_items}
 use Rattle.slot_codec.specs.Logs.{Given, IsCell, with_given}
-use Rattle.slot_codec.specs.Readable.{IsHeader}
+use Rattle.slot_codec.specs.Readable.{IsFull, IsHeader}
 use Rattle.slot_codec.specs.Reading.{all_in_range, is_in_range}
 use Rattle.slot_codec.specs.declared.codec.Header.{Header}
 
 -- the tables of a header are full
-pub record AreFull (h : Header) : Type 0 where
-  pub caps : length h.caps ≡ 32
-  pub used : length h.used ≡ 32
-  pub rows : (j : ℕ) → j < 32 → length (slice_index_or h.used j []) ≡ 32
+record AreFull (h : Header) : Type 0 where
+  caps : length h.caps ≡ 32
+  used : length h.used ≡ 32
+  rows : (j : ℕ) → j < 32 → length (slice_index_or h.used j []) ≡ 32
 
 -- ---- a cell
 
@@ -301,45 +301,7 @@ agrees_first h start = record {
   high = λ i high within. zero_cell start i within (cases_lt i 32);
 }
 
--- what the cells of a header that aren't 0 make of one without cells
-pub record GivesCells (h start : Header) : Type 0 where
-  pub are : AreItems IsCell with_given (record { next = 0; header = without_cells start }) (cells_of h)
-  pub header : (after_items with_given (record { next = 0; header = without_cells start }) (cells_of h)).header
-      ≡ record start { caps = h.caps; used = h.used }
-
-bare_same : (g start : Header) (caps : List ℕ) (used : List (List ℕ)) → bare g ≡ bare start
-    → record g { caps = caps; used = used } ≡ record start { caps = caps; used = used }
-unfolding bare
-bare_same g start caps used same = ap (λ (h : Header). record h { caps = caps; used = used }) same
-
--- they are cells, and give its capacities and numbers
-pub cells_give : (h start : Header) → AreFull h → ((i : ℕ) → i < header_cells → cell_of h i < 2 ^ 48)
-    → GivesCells h start
-cells_give h start full ranges =
-    let g : Given = record { next = 0; header = without_cells start } in
-    let gives = give h start 0 header_cells header_cells g (omega arith) (omega arith) ranges (omega arith)
-    (agrees_first h start) in
-    let all : Gives h start header_cells g (cells_of h) =
-    subst (Gives h start header_cells g) (sym (all_cells h header_cells)) gives in
-    let now : Header = (after_items with_given g (cells_of h)).header in
-    let same = same_cells h now full all.agrees.full all.agrees.low in
-    let own : now ≡ record now { caps = h.caps; used = h.used } =
-    λ i. record now { caps = same.0 i; used = same.1 i } in
-    record { are = all.are; header = own ∙ bare_same now start h.caps h.used all.agrees.others }
-
--- they are at most as many as a header has
-pub cells_few : (h : Header) → length (cells_of h) ≤ header_cells
-cells_few h =
-    let some : ℕ × ℕ → Bool = λ p. not (p.1 == 0) in
-    let all : List (ℕ × ℕ) = map (λ i. (i, cell_of h i)) (below header_cells) in
-    let long : length all ≡ header_cells =
-    length-map (below header_cells) (λ i. (i, cell_of h i)) ∙ length-below header_cells in
-    omega (arith, length-filter some all, count_by-le-length some all, long)
-
--- the tables of a header in range are full, and its cells in range
-pub header_full : (names : ℕ) (h : Header) → IsHeader names h → AreFull h
-header_full names h is = record { caps = is.caps_full; used = is.used_full; rows = is.rows_full }
-
+-- its cells are in range
 all_at : {X : Type 0} (p : X → Bool) (xs : List X) (i : ℕ) (d : X) → list_all p xs ≡ true → i < length xs
     → p (slice_index_or xs i d) ≡ true
 all_at p xs i d all low =
@@ -351,7 +313,7 @@ all_at p xs i d all low =
     differ : true ≡ false → ⊥
     differ h = cc
 
-pub cell_range : (h : Header) → AreFull h → IsTrue (all_in_range h) → (i : ℕ) → i < header_cells
+cell_range : (h : Header) → AreFull h → IsTrue (all_in_range h) → (i : ℕ) → i < header_cells
     → cell_of h i < 2 ^ 48
 cell_range h full ranges i within =
     let used = and_parts (is_in_range h.wall && is_in_range h.slack && list_all is_in_range h.caps)
@@ -372,3 +334,48 @@ cell_range h full ranges i within =
           let less = ltb-true (slice_index (slice_index_or h.used j []) (i % 32)) (2 ^ 48) is in
           omega (arith, cell_high h i high, less)
     ]
+
+-- what the cells of a header that aren't 0 make of one without cells
+pub record GivesCells (h start : Header) : Type 0 where
+  pub are : AreItems IsCell with_given (record { next = 0; header = without_cells start }) (cells_of h)
+  pub header : (after_items with_given (record { next = 0; header = without_cells start }) (cells_of h)).header
+      ≡ record start { caps = h.caps; used = h.used }
+
+bare_same : (g start : Header) (caps : List ℕ) (used : List (List ℕ)) → bare g ≡ bare start
+    → record g { caps = caps; used = used } ≡ record start { caps = caps; used = used }
+unfolding bare
+bare_same g start caps used same = ap (λ (h : Header). record h { caps = caps; used = used }) same
+
+-- they are cells, and give its capacities and numbers
+pub cells_give : (h start : Header) → IsFull h → GivesCells h start
+cells_give h start is =
+    let full : AreFull h = record { caps = is.caps_full; used = is.used_full; rows = is.rows_full } in
+    let ranges = cell_range h full is.ranges in
+    let g : Given = record { next = 0; header = without_cells start } in
+    let gives = give h start 0 header_cells header_cells g (omega arith) (omega arith) ranges (omega arith)
+    (agrees_first h start) in
+    let all : Gives h start header_cells g (cells_of h) =
+    subst (Gives h start header_cells g) (sym (all_cells h header_cells)) gives in
+    let now : Header = (after_items with_given g (cells_of h)).header in
+    let same = same_cells h now full all.agrees.full all.agrees.low in
+    let own : now ≡ record now { caps = h.caps; used = h.used } =
+    λ i. record now { caps = same.0 i; used = same.1 i } in
+    record { are = all.are; header = own ∙ bare_same now start h.caps h.used all.agrees.others }
+
+-- they are at most as many as a header has
+pub cells_few : (h : Header) → length (cells_of h) ≤ header_cells
+cells_few h =
+    let some : ℕ × ℕ → Bool = λ p. not (p.1 == 0) in
+    let all : List (ℕ × ℕ) = map (λ i. (i, cell_of h i)) (below header_cells) in
+    let long : length all ≡ header_cells =
+    length-map (below header_cells) (λ i. (i, cell_of h i)) ∙ length-below header_cells in
+    omega (arith, length-filter some all, count_by-le-length some all, long)
+
+-- a header in range is full
+pub header_full : (names : ℕ) (h : Header) → IsHeader names h → IsFull h
+header_full names h is = record {
+  ranges = is.ranges;
+  caps_full = is.caps_full;
+  used_full = is.used_full;
+  rows_full = is.rows_full;
+}

@@ -1,24 +1,24 @@
 -- What is read as an entry is the spelling of one.
-use Rattle.std.proofs.Common.{◌≡◌, ℕ, ◌+◌, ◌-◌, ◌*◌, ◌/◌, ◌<◌, ◌≤◌, ◌^◌, List, ◌++◌, length, refl, sym, ap, ◌∙◌, subst, arith}
+use Rattle.std.proofs.Common.{◌≡◌, ℕ, ◌+◌, ◌-◌, ◌*◌, ◌<◌, ◌≤◌, List, ◌++◌, length, refl, sym, ap, ◌∙◌, subst, arith}
 use Rattle.std.proofs.lemmas.Bool.{leb-false, ltb-false}
 use Rattle.std.specs.FinMap as fin
-use Rattle.std.specs.Prelude.{if◌then◌else◌, nat_le, nat_lt, flat_map, Result, Ok, Err}
+use Rattle.std.specs.Prelude.{if◌then◌else◌, nat_le, nat_lt, flat_map, Ok, Err}
 use Rattle.byte_ranges.specs.Ranges.{bytes_at}
 use Rattle.byte_ranges.specs.Lists.{◌>>=◌}
 use Rattle.byte_ranges.proofs.RangeLaws.{length-bytes_at}
 use Rattle.slot_codec.specs.Choice.{codec, placed_at}
-use Rattle.slot_codec.specs.Entries.{Entry, entry_bytes, entry_head_bytes, entry_len, entry_room, gone_from, moved_from, pair_bytes, puts_from, read_entry_head, up}
+use Rattle.slot_codec.specs.Entries.{Entry, entry_bytes, entry_head_bytes, entry_len, entry_room, gone_from, moved_from, pair_bytes, puts_from, read_entry_head}
 use Rattle.slot_codec.specs.Items.{after_items, read_items}
-use Rattle.slot_codec.specs.Logs.{Given, IsCell, IsEntry, Logged, after_entry, begun, cell_step, gap_step, gone_step, log_worn_from, move_step, put_step, read_changes, read_entry, with_given}
+use Rattle.slot_codec.specs.Logs.{Given, IsEntry, Logged, after_entry, begun, cell_step, gap_step, gone_step, log_worn_from, move_step, put_step, read_changes, read_entry, with_given}
 use Rattle.slot_codec.specs.Names.{name_bytes}
-use Rattle.slot_codec.specs.Rows.{AreChanges, IsGone, IsMove, IsPut, Rows, changed_rows, moved_row, with_row}
+use Rattle.slot_codec.specs.Rows.{AreChanges, Rows, changed_rows, moved_row}
 use Rattle.slot_codec.specs.Spelling.{AreBytes, record_bytes, zeros}
 use Rattle.slot_codec.specs.declared.entry.EntryHead.{EntryHead}
 use Rattle.slot_codec.specs.declared.codec.Record.{Record}
 use Rattle.slot_codec.specs.declared.codec.CodecFault.TheVariants as fault
 use Rattle.slot_codec.proofs.EntryItemLaws.{only_cells, only_moves, only_names, only_puts}
 use Rattle.slot_codec.proofs.EntryLaws.{entry_head_parts, entry_head_spelled}
-use Rattle.slot_codec.proofs.ItemLaws.{ReadItems, items_back}
+use Rattle.slot_codec.proofs.ItemLaws.{items_back}
 use Rattle.slot_codec.proofs.PartLaws.{bytes_at-are_bytes, bytes_at-more}
 use Rattle.slot_codec.proofs.ReadEntryLaws.{entry_behind, entry_ended, gap_back}
 use Rattle.slot_codec.proofs.StepLaws.{bind_ok, from_ok, guard_ok, placed_ok}

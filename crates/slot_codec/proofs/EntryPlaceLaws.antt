@@ -1,5 +1,5 @@
 -- An entry rests on its own bytes and those of the gap behind it.
-use Rattle.std.proofs.Common.{◌≡◌, ℕ, ◌+◌, ◌-◌, ◌*◌, ◌/◌, ◌%◌, ◌<◌, ◌≤◌, true, false, not, ◌||◌, ◌&&◌, List, length, refl, sym, ap, ◌∙◌, subst, arith}
+use Rattle.std.proofs.Common.{◌≡◌, ℕ, ◌+◌, ◌-◌, ◌*◌, ◌/◌, ◌%◌, ◌<◌, ◌≤◌, not, ◌&&◌, List, length, sym, ap, ◌∙◌, subst, arith}
 use Rattle.std.proofs.lemmas.Bool.{ltb-true, not-false}
 use Rattle.std.specs.FinMap as fin
 use Rattle.std.specs.Int.{w64, from_le_bytes}
@@ -10,7 +10,7 @@ use Rattle.byte_ranges.proofs.RangeLaws.{bytes_at-same, bytes_at-within}
 use Rattle.slot_codec.specs.Choice.{SlotRefusal, codec, placed_at}
 use Rattle.slot_codec.specs.Entries.{entry_head_of, entry_len, entry_room, gone_from, has_too_many, moved_from, puts_from, read_entry_head, up}
 use Rattle.slot_codec.specs.Items.{read_items}
-use Rattle.slot_codec.specs.Logs.{Given, IsLocal, Logged, Reading, begun, cell_step, gap_step, gone_step, len_at, log_step, log_worn_from, move_step, put_step, read_changes, read_entry, room_at}
+use Rattle.slot_codec.specs.Logs.{Given, IsLocal, Logged, begun, cell_step, gap_step, gone_step, len_at, log_step, log_worn_from, move_step, put_step, read_changes, read_entry, room_at}
 use Rattle.slot_codec.specs.Reading.{are_zeros, is_in_range, number_at}
 use Rattle.slot_codec.specs.Rows.{Rows}
 use Rattle.slot_codec.specs.declared.entry.EntryHead.{EntryHead}

@@ -1,27 +1,27 @@
 -- An entry has one spelling, reading is its inverse, and it rests on its own bytes.
-use Rattle.std.proofs.Common.{◌≡◌, ℕ, zero, suc, ◌+◌, ◌-◌, ◌*◌, ◌/◌, ◌<◌, ◌≤◌, ◌^◌, true, false, not, ◌||◌, List, [], ◌∷◌, ◌++◌, length, take, drop, refl, sym, ap, ◌∙◌, subst, arith, length-append, append_assoc}
-use Rattle.std.proofs.lemmas.Bool.{le-ltb, leb-false, lt-leb, ltb-false, not-false, not_from_true}
+use Rattle.std.proofs.Common.{◌≡◌, ℕ, zero, suc, ◌+◌, ◌-◌, ◌*◌, ◌<◌, ◌≤◌, ◌^◌, not, List, ◌++◌, length, drop, refl, sym, ap, ◌∙◌, arith, length-append}
+use Rattle.std.proofs.lemmas.Bool.{le-ltb, lt-leb, not-false}
 use Rattle.std.proofs.lemmas.List.{length-replicate, take-append-drop}
 use Rattle.std.specs.FinMap as fin
 use Rattle.std.specs.Prelude.{if◌then◌else◌, nat_le, nat_lt, flat_map, Result, Ok, Err}
-use Rattle.byte_ranges.specs.Ranges.{SameWithin, bytes_at}
+use Rattle.byte_ranges.specs.Ranges.{bytes_at}
 use Rattle.byte_ranges.specs.Lists.{◌>>=◌}
-use Rattle.byte_ranges.proofs.RangeLaws.{bytes_at-same, length-bytes_at}
+use Rattle.byte_ranges.proofs.RangeLaws.{length-bytes_at}
 use Rattle.slot_codec.specs.Choice.{SlotRefusal, codec, placed_at}
-use Rattle.slot_codec.specs.Entries.{Entry, IsEntryHead, entry_bytes, entry_head_bytes, entry_len, entry_room, gone_from, moved_from, pair_bytes, puts_from, read_entry_head, up}
+use Rattle.slot_codec.specs.Entries.{Entry, entry_bytes, entry_head_bytes, entry_len, entry_room, gone_from, moved_from, pair_bytes, puts_from, read_entry_head}
 use Rattle.slot_codec.specs.Items.{AreItems, after_items, read_items}
-use Rattle.slot_codec.specs.Logs.{Given, IsCell, IsEntry, Logged, after_entry, begun, cell_step, gap_step, gone_step, log_worn_from, move_step, put_step, read_changes, read_entry, with_given}
+use Rattle.slot_codec.specs.Logs.{Given, IsEntry, Logged, after_entry, begun, cell_step, gap_step, gone_step, log_worn_from, move_step, put_step, read_changes, read_entry, with_given}
 use Rattle.slot_codec.specs.Names.{name_bytes}
 use Rattle.slot_codec.specs.Reading.{are_zeros}
-use Rattle.slot_codec.specs.Rows.{AreChanges, IsGone, IsMove, IsPut, Rows, changed_rows, moved_row, with_row}
-use Rattle.slot_codec.specs.Spelling.{AreBytes, record_bytes, zeros}
+use Rattle.slot_codec.specs.Rows.{Rows, changed_rows, moved_row}
+use Rattle.slot_codec.specs.Spelling.{record_bytes, zeros}
 use Rattle.slot_codec.specs.declared.entry.EntryHead.{EntryHead}
 use Rattle.slot_codec.specs.declared.codec.CodecFault.TheVariants as fault
-use Rattle.slot_codec.proofs.EntryItemLaws.{IsLowMove, moves_low, only_cells, only_moves, only_names, only_puts, takes_cells, takes_moves, takes_names, takes_puts}
-use Rattle.slot_codec.proofs.EntryLaws.{entry_head_exact, entry_head_read}
-use Rattle.slot_codec.proofs.ItemLaws.{items_back, items_read, length-items}
-use Rattle.slot_codec.proofs.PartLaws.{StandsAt, bytes_at-are_bytes, bytes_at-more, stands_bytes, stands_left, stands_right, zeros_are_zeros, zeros_spelled}
-use Rattle.slot_codec.proofs.StepLaws.{bind_from, bind_ok, bind_same, from_ok, guard_from, guard_ok, placed_ok}
+use Rattle.slot_codec.proofs.EntryItemLaws.{IsLowMove, moves_low, takes_cells, takes_moves, takes_names, takes_puts}
+use Rattle.slot_codec.proofs.EntryLaws.{entry_head_read}
+use Rattle.slot_codec.proofs.ItemLaws.{items_read, length-items}
+use Rattle.slot_codec.proofs.PartLaws.{StandsAt, bytes_at-more, stands_bytes, stands_left, stands_right, zeros_spelled}
+use Rattle.slot_codec.proofs.StepLaws.{bind_from, bind_ok, guard_from, guard_ok, placed_ok}
 
 -- ---- the gap
 
@@ -188,15 +188,24 @@ entry_read cap top file at x e few_cap few is there =
     (Ok (record { header = record given.header { count = fin.len rows }; rows = rows }))
     (le-ltb cap (fin.len rows) is.few)
 
--- what bytes begin with stands there
+-- what bytes are or begin with stands there
+pub stands_from : (file : List ℕ) (at n : ℕ) (part : List ℕ) → bytes_at file at n ≡ part → StandsAt file at part
+stands_from file at n part is = record {
+  rest = drop n (drop at file);
+  is = sym (take-append-drop n (drop at file)) ∙ ap (λ xs. xs ++ drop n (drop at file)) is;
+}
+
 pub begins_with : (file : List ℕ) (at n : ℕ) (part rest : List ℕ) → bytes_at file at n ≡ part ++ rest
     → StandsAt file at part
-begins_with file at n part rest is = stands_left file at part rest
-    record {
-      rest = drop n (drop at file);
-      is = sym (take-append-drop n (drop at file))
-          ∙ ap (λ xs. xs ++ drop n (drop at file)) is;
-    }
+begins_with file at n part rest is = stands_left file at part rest (stands_from file at n (part ++ rest) is)
+
+-- an entry is read from its bytes
+pub entry_from : (cap top : ℕ) (file : List ℕ) (at : ℕ) (x : Logged) (e : Entry) → cap < 2 ^ 64
+    → fin.len x.rows ≤ 2 ^ 32 → IsEntry cap (top - at) x e
+    → bytes_at file (at + 1) (entry_room e.head - 1) ≡ entry_bytes e
+    → read_entry cap top file at x ≡ Ok (after_entry x e)
+entry_from cap top file at x e few_cap few is text = entry_read cap top file at x e few_cap few is
+    (stands_from file (at + 1) (entry_room e.head - 1) (entry_bytes e) text)
 
 -- how long its spelling is
 pub length-entry_bytes : (cap room : ℕ) (x : Logged) (e : Entry) → fin.len x.rows ≤ 2 ^ 32 → IsEntry cap room x e

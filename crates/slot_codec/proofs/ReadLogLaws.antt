@@ -1,26 +1,24 @@
 -- What a log is read to: where it ends, what it rests on, and what an entry behind it makes of it.
-use Rattle.std.proofs.Common.{inl, inr, ◌≡◌, ℕ, zero, suc, ◌+◌, ◌-◌, ◌*◌, ◌/◌, ◌<◌, ◌≤◌, ◌^◌, true, false, List, [], ◌∷◌, ◌++◌, length, refl, sym, ap, ◌∙◌, subst, arith}
+use Rattle.std.proofs.Common.{inl, inr, ◌≡◌, ℕ, suc, ◌+◌, ◌-◌, ◌/◌, ◌<◌, ◌≤◌, ◌^◌, true, false, List, [], ◌∷◌, ◌++◌, length, refl, sym, ap, ◌∙◌, subst, arith}
 use Rattle.std.proofs.lemmas.Bool.{cases_Bool, cond-false, cond-true}
-use Rattle.std.proofs.lemmas.List.{append-nil}
 use Rattle.std.specs.FinMap as fin
-use Rattle.std.specs.Prelude.{◌==◌, if◌then◌else◌, nat_le, nat_lt, Result, Ok, Err}
+use Rattle.std.specs.Prelude.{◌==◌, if◌then◌else◌, nat_le, nat_lt, Ok, Err}
 use Rattle.byte_ranges.specs.Ranges.{SameWithin, bytes_at}
 use Rattle.byte_ranges.specs.Lists.{◌>>=◌}
 use Rattle.slot_codec.specs.Cells.{with_cell}
-use Rattle.slot_codec.specs.Choice.{SlotRefusal, codec, is_open, placed_at}
-use Rattle.slot_codec.specs.Entries.{Entry, IsEntryHead, entry_bytes, entry_head_bytes, entry_head_of, entry_len, entry_room, read_entry_head, up}
+use Rattle.slot_codec.specs.Choice.{codec, is_open, placed_at}
+use Rattle.slot_codec.specs.Entries.{Entry, entry_bytes, entry_head_bytes, entry_head_of, entry_len, entry_room, read_entry_head, up}
 use Rattle.slot_codec.specs.Items.{read_items}
 use Rattle.slot_codec.specs.Logs.{Given, IsEntry, IsLocal, Logged, Reading, after_entry, begun, cell_step, ends_closed, goes_on, log_end, log_step, log_worn_from, read_cell, gap_step, read_changes, read_entry, read_log, room_at, walk, with_given}
 use Rattle.slot_codec.specs.Spelling.{gate_open}
 use Rattle.slot_codec.specs.declared.codec.Header.{Header}
-use Rattle.slot_codec.specs.declared.entry.EntryHead.{EntryHead}
 use Rattle.slot_codec.specs.declared.codec.CodecFault.TheVariants as fault
 use Rattle.slot_codec.proofs.EntryLaws.{entry_head_read}
 use Rattle.slot_codec.proofs.EntryPlaceLaws.{head_read, len_of_head, log_step_local}
 use Rattle.slot_codec.proofs.ItemLaws.{items_keep}
-use Rattle.slot_codec.proofs.LogLaws.{GoesOn, entry_there, goes_on_from, walk_beside, walk_closed, walk_ends, walk_grows, walk_more, walk_relates, walk_same}
-use Rattle.slot_codec.proofs.PartLaws.{StandsAt, stands_bytes, stands_index, stands_left, stands_right}
-use Rattle.slot_codec.proofs.ReadEntryLaws.{begins_with, head_stands, entry_behind, entry_ended, entry_read, length-entry_bytes}
+use Rattle.slot_codec.proofs.LogLaws.{entry_there, goes_on_from, walk_beside, walk_closed, walk_ends, walk_grows, walk_more, walk_relates, walk_same}
+use Rattle.slot_codec.proofs.PartLaws.{stands_bytes, stands_index, stands_right}
+use Rattle.slot_codec.proofs.ReadEntryLaws.{begins_with, head_stands, entry_behind, entry_ended, entry_read, length-entry_bytes, stands_from}
 use Rattle.slot_codec.proofs.StepLaws.{bind_ok, from_ok, guard_ok, placed_ok}
 
 -- ---- where it ends
@@ -140,8 +138,7 @@ appended_closed : (cap top : ℕ) (file : List ℕ) (at : ℕ) (x : Logged) (e :
     → is_open file (at + entry_room e.head) ≡ false
 appended_closed cap top file at x e p =
     let n = length-entry_bytes cap (top - at) x e p.few p.entry in
-    let all = begins_with file (at + 1) (entry_room e.head) (entry_bytes e ++ 0 ∷ []) []
-    (p.text ∙ sym (append-nil (entry_bytes e ++ 0 ∷ []))) in
+    let all = stands_from file (at + 1) (entry_room e.head) (entry_bytes e ++ 0 ∷ []) p.text in
     let there = stands_right file (at + 1) (at + entry_room e.head) (entry_bytes e) (0 ∷ []) (omega (arith, n)) all in
     ap (λ v. v == gate_open) (stands_index file (at + entry_room e.head) 0 [] there)
 

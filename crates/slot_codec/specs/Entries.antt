@@ -1,5 +1,5 @@
 -- The entry of a slot's log: a gate, a head, and lists of what changed. No file of the program has a log yet.
-use Rattle.std.specs.Prelude.{ℕ, zero, suc, ◌+◌, ◌-◌, ◌*◌, ◌/◌, ◌^◌, ◌<◌, ◌≤◌, ◌&&◌, ◌||◌, nat_lt, Bool, not, if◌then◌else◌, List, [], ◌∷◌, ◌++◌, flat_map, slice_index, Result, Ok, Err}
+use Rattle.std.specs.Prelude.{ℕ, ◌+◌, ◌-◌, ◌*◌, ◌/◌, ◌^◌, ◌<◌, ◌≤◌, ◌&&◌, ◌||◌, nat_lt, Bool, not, if◌then◌else◌, List, [], ◌∷◌, ◌++◌, flat_map, slice_index, Result, Ok, Err}
 use Rattle.byte_ranges.specs.Ranges.{bytes_at}
 use Rattle.slot_codec.specs.Cells.{header_cells}
 use Rattle.slot_codec.specs.Names.{name_bytes}
@@ -80,15 +80,6 @@ pair_bytes p = number p.0 ++ number p.1
 -- the pair of numbers at a position
 abbrev pub pair_at : List ℕ → ℕ → ℕ × ℕ
 pair_at bytes at = (number_at bytes at, number_at bytes (at + 8))
-
--- n pairs of numbers from a position on
-abbrev pub pairs_at : ℕ → List ℕ → ℕ → List (ℕ × ℕ)
-pairs_at zero bytes at = []
-pairs_at (suc n) bytes at = pair_at bytes at ∷ pairs_at n bytes (at + 16)
-
--- both numbers of a pair are below 2^48
-abbrev pub is_pair : ℕ × ℕ → Bool
-is_pair p = is_in_range p.0 && is_in_range p.1
 
 -- ---- the whole entry
 
