@@ -228,7 +228,8 @@ give h start first (suc n) to g end within ranges next a =
           let later = give h start (first + 1) n to g rest within ranges (omega (arith, next))
           (no_cell h start first g.header here (eqb-true value 0 none) a) in
           let is : some_cells h first (suc n) ≡ some_cells h (first + 1) n = some_cells-more h first n
-          ∙ ap (λ b. cond (not b) ((first, value) ∷ some_cells h (first + 1) n) (some_cells h (first + 1) n)) none in
+          ∙ ap (λ b. cond (not b) ((first, value) ∷ some_cells h (first + 1) n)
+          (some_cells h (first + 1) n)) none in
           subst (Gives h start to g) (sym is) later
       | inr some ↦
           let now : Given = with_given g (first, value) in
@@ -236,7 +237,8 @@ give h start first (suc n) to g end within ranges next a =
           (a_cell h start first g.header here a) in
           let is : some_cells h first (suc n) ≡ (first, value) ∷ some_cells h (first + 1) n =
           some_cells-more h first n
-          ∙ ap (λ b. cond (not b) ((first, value) ∷ some_cells h (first + 1) n) (some_cells h (first + 1) n)) some in
+          ∙ ap (λ b. cond (not b) ((first, value) ∷ some_cells h (first + 1) n)
+          (some_cells h (first + 1) n)) some in
           let cell : IsCell g (first, value) = record {
             later = next;
             cell = here;
@@ -338,7 +340,8 @@ cell_range h full ranges i within =
 -- what the cells of a header that aren't 0 make of one without cells
 pub record GivesCells (h start : Header) : Type 0 where
   pub are : AreItems IsCell with_given (record { next = 0; header = without_cells start }) (cells_of h)
-  pub header : (after_items with_given (record { next = 0; header = without_cells start }) (cells_of h)).header
+  pub header : (after_items with_given (record { next = 0; header = without_cells start })
+      (cells_of h)).header
       ≡ record start { caps = h.caps; used = h.used }
 
 bare_same : (g start : Header) (caps : List ℕ) (used : List (List ℕ)) → bare g ≡ bare start

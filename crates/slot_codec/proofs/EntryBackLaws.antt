@@ -51,7 +51,8 @@ changes_back file at h rows left bytes within read =
     let a = bind_ok (read_items move_step 16 h.moved file (at + moved_from h) rows)
     (λ moved. read_items gone_step 64 h.gone file (at + gone_from h) moved
     >>= λ left. read_items put_step 112 h.puts file (at + puts_from h) left) left read in
-    let moved = items_back only_moves h.moved file (at + moved_from h) rows a.0 bytes (omega (arith, within)) a.1 in
+    let moved = items_back only_moves h.moved file (at + moved_from h) rows a.0 bytes
+    (omega (arith, within)) a.1 in
     let m = after_items moved_row rows moved.items in
     let b = bind_ok (read_items gone_step 64 h.gone file (at + gone_from h) a.0)
     (λ left. read_items put_step 112 h.puts file (at + puts_from h) left) left a.2 in
@@ -89,7 +90,8 @@ text_joined : (file : List ℕ) (at : ℕ) (h : EntryHead) (x left : Rows) (cell
     → bytes_at file (at + 1) (entry_room h - 1)
     ≡ entry_bytes (record { head = h; cells = cells; moved = c.moved; gone = c.gone; puts = c.puts })
 text_joined file at h x left cells c head cell_text gap =
-    let a = grown file (at + 1) 55 (at + 56) (16 * h.cells) (55 + 16 * h.cells) _ _ (omega arith) refl head cell_text
+    let a = grown file (at + 1) 55 (at + 56) (16 * h.cells) (55 + 16 * h.cells) _ _
+    (omega arith) refl head cell_text
     in
     let b = grown file (at + 1) (55 + 16 * h.cells) (at + moved_from h) (16 * h.moved)
     (55 + 16 * h.cells + 16 * h.moved) _ _ (omega arith) refl a c.moved_text in
@@ -108,7 +110,8 @@ entry_back cap top file at x y bytes long read =
     let count = fin.len x.rows in
     let room = top - at in
     let text = bytes_at file (at + 1) 55 in
-    let a = bind_ok (placed_at at (read_entry_head cap count room text)) (entry_behind cap file at x) y read in
+    let a = bind_ok (placed_at at (read_entry_head cap count room text)) (entry_behind cap file at x) y read
+    in
     let h = a.0 in
     let head = placed_ok at (read_entry_head cap count room text) h a.1 in
     let are = bytes_at-are_bytes file (at + 1) 55 bytes in
@@ -132,7 +135,8 @@ entry_back cap top file at x y bytes long read =
     let e = bind_ok (read_items gap_step 1 (entry_room h - entry_len h) file (at + entry_len h) tt)
     (λ none. if nat_lt cap (fin.len rows) then Err (codec fault.Count at) else Ok (end given rows)) y d.2 in
     let f = guard_ok (nat_lt cap (fin.len rows)) (codec fault.Count at) (Ok (end given rows)) y e.2 in
-    let gap = gap_back (entry_room h - entry_len h) file (at + entry_len h) (omega (arith, inside, len)) e.1 in
+    let gap = gap_back (entry_room h - entry_len h) file (at + entry_len h) (omega (arith, inside, len)) e.1
+    in
     let few : fin.len rows ≤ cap = ltb-false cap (fin.len rows) f.0 in
     record {
       entry = record {

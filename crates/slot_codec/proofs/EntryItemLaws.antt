@@ -32,7 +32,8 @@ pub pair_read : (p : ℕ × ℕ) → p.0 < 2 ^ 64 → p.1 < 2 ^ 64 → pair_at (
 pair_read p low high =
     let b = pair_bytes p in
     let whole = stands_whole b in
-    let first : number_at b 0 ≡ p.0 = stands_number b 0 p.0 low (stands_left b 0 (number p.0) (number p.1) whole) in
+    let first : number_at b 0 ≡ p.0 = stands_number b 0 p.0 low
+    (stands_left b 0 (number p.0) (number p.1) whole) in
     let second : number_at b 8 ≡ p.1 = stands_number b 8 p.1 high
     (stands_right b 0 8 (number p.0) (number p.1) refl whole) in
     λ i. (first i, second i)
@@ -119,20 +120,23 @@ pub record IsLowMove (rows : Rows) (p : ℕ × ℕ) : Type 0 where
   pub move : IsMove rows p
   pub low : p.0 < 2 ^ 64
 
-move_taken : (rows : Rows) (p : ℕ × ℕ) → IsLowMove rows p → move_step rows (pair_bytes p) ≡ Ok (moved_row rows p)
+move_taken : (rows : Rows) (p : ℕ × ℕ) → IsLowMove rows p → move_step rows (pair_bytes p)
+    ≡ Ok (moved_row rows p)
 move_taken rows p m =
     let is = pair_read p m.low (omega (arith, m.move.place)) in
     let there : nat_lt p.0 (fin.len rows) ≡ true = lt-ltb p.0 (fin.len rows) m.move.there in
     let place : is_in_range p.1 ≡ true = lt-ltb p.1 (2 ^ 48) m.move.place in
     let fits : move_from (fin.len rows) p ≡ Ok p =
-    guard_from _ fault.Absent _ (not_from_true _ there) ∙ guard_from _ fault.Range _ (not_from_true _ place) in
+    guard_from _ fault.Absent _ (not_from_true _ there) ∙ guard_from _ fault.Range _ (not_from_true _ place)
+    in
     ap (λ q. move_from (fin.len rows) q >>= λ p. Ok (moved_row rows p)) is
     ∙ bind_from (move_from (fin.len rows) p) (λ p. Ok (moved_row rows p)) p fits
 
 pub takes_moves : TakesItems move_step moved_row IsLowMove pair_bytes 16
 takes_moves = record { long = λ rows p m. refl; takes = move_taken }
 
-move_back : (rows t : Rows) (bytes : List ℕ) → length bytes ≡ 16 → AreBytes bytes → move_step rows bytes ≡ Ok t
+move_back : (rows t : Rows) (bytes : List ℕ) → length bytes ≡ 16 → AreBytes bytes
+    → move_step rows bytes ≡ Ok t
     → TakenItem moved_row IsMove pair_bytes rows t bytes
 move_back rows t bytes long are h =
     let r = bind_ok (read_move (fin.len rows) bytes) (λ p. Ok (moved_row rows p)) t h in
@@ -166,7 +170,8 @@ gone_taken rows name g =
 pub takes_names : TakesItems gone_step fin.remove IsGone name_bytes 64
 takes_names = record { long = λ rows name g. length-name_bytes name g.named; takes = gone_taken }
 
-name_back : (rows t : Rows) (bytes : List ℕ) → length bytes ≡ 64 → AreBytes bytes → gone_step rows bytes ≡ Ok t
+name_back : (rows t : Rows) (bytes : List ℕ) → length bytes ≡ 64 → AreBytes bytes
+    → gone_step rows bytes ≡ Ok t
     → TakenItem fin.remove IsGone name_bytes rows t bytes
 name_back rows t bytes long are h =
     let r = bind_ok (read_name bytes)
@@ -184,7 +189,8 @@ only_names = record { back = name_back }
 
 -- ---- records that are put
 
-put_taken : (rows : Rows) (r : Record) → IsPut rows r → put_step rows (record_bytes 2 r) ≡ Ok (with_row rows r)
+put_taken : (rows : Rows) (r : Record) → IsPut rows r → put_step rows (record_bytes 2 r)
+    ≡ Ok (with_row rows r)
 put_taken rows r p = bind_from (read_record 2 (record_bytes 2 r)) (λ r. Ok (with_row rows r)) r
     (record_read 2 r p.in_range p.digest)
 
@@ -212,7 +218,8 @@ only_puts = record { back = put_back }
 -- ---- ranks are low
 
 len-with_row : (rows : Rows) (r : Record) → fin.len (with_row rows r) ≤ fin.len rows + 1
-len-with_row rows r = either (fin.contains_key rows r.name) (fin.len rows) (fin.len (with_row rows r)) (fin.len-insert nat_list_cmp_total rows r.name r)
+len-with_row rows r = either (fin.contains_key rows r.name) (fin.len rows) (fin.len (with_row rows r))
+    (fin.len-insert nat_list_cmp_total rows r.name r)
   where
     either : (b : Bool) (n m : ℕ) → m ≡ cond b n (n + 1) → m ≤ n + 1
     either true n m h = omega (arith, h)
@@ -229,5 +236,8 @@ pub moves_low : (rows : Rows) (ps : List (ℕ × ℕ)) → fin.len rows + length
 moves_low rows [] few are = tt
 moves_low rows (p ∷ ps) few are =
     let grows = len-with_place rows (slice_get (fin.values rows) p.0) p.1 in
-    let rest : fin.len (moved_row rows p) + length ps < 2 ^ 64 = omega (arith, few, grows) in
-    (record { move = are.0; low = omega (arith, are.0.there, few) }, moves_low (moved_row rows p) ps rest are.1)
+    let rest : fin.len (moved_row rows p) + length ps < 2 ^ 64 = omega (arith, few, grows) in (
+      record { move = are.0; low = omega (arith, are.0.there, few) },
+      moves_low
+          (moved_row rows p) ps rest are.1,
+    )

@@ -25,7 +25,8 @@ pub record HeadRead (room : ℕ) (bytes : List ℕ) (h : EntryHead) : Type 0 whe
   pub is : entry_head_of bytes ≡ h
   pub within : entry_room h < room
 
-pub head_read : (cap count room : ℕ) (bytes : List ℕ) (h : EntryHead) → read_entry_head cap count room bytes ≡ Ok h
+pub head_read : (cap count room : ℕ) (bytes : List ℕ) (h : EntryHead)
+    → read_entry_head cap count room bytes ≡ Ok h
     → HeadRead room bytes h
 unfolding read_entry_head
 head_read cap count room bytes h read =
@@ -48,7 +49,8 @@ head_number file at k to low is = ap (from_le_bytes w64) (bytes_at-within file (
     ∙ ap (number_at file) is
 
 -- how long the entry is that its head says
-pub len_of_head : (file : List ℕ) (at : ℕ) → entry_len (entry_head_of (bytes_at file (at + 1) 55)) ≡ len_at file at
+pub len_of_head : (file : List ℕ) (at : ℕ) → entry_len (entry_head_of (bytes_at file (at + 1) 55))
+    ≡ len_at file at
 len_of_head file at =
     let c = head_number file at 7 (at + 8) (omega arith) (omega arith) in
     let m = head_number file at 15 (at + 16) (omega arith) (omega arith) in
@@ -84,7 +86,8 @@ changes_same a b at h rows e =
     ∙ bind_same (read_items gone_step 64 h.gone b (at + gone_from h) m) (puts a) (puts b) (λ left got.
     list_same put_step 112 h.puts (puts_from h) a b at h left e (omega arith)))
 
-ended_same : (cap : ℕ) (a b : List ℕ) (at : ℕ) (h : EntryHead) (given : Given) (rows : Rows) → SameEntry a b at h
+ended_same : (cap : ℕ) (a b : List ℕ) (at : ℕ) (h : EntryHead) (given : Given) (rows : Rows)
+    → SameEntry a b at h
     → entry_ended cap a at h given rows ≡ entry_ended cap b at h given rows
 ended_same cap a b at h given rows e =
     ap (λ r. r >>= λ none. if nat_lt cap (fin.len rows) then Err (codec fault.Count at) else
@@ -104,7 +107,8 @@ behind_same cap a b at x h e =
     ap (λ r. r >>= entry_ended cap a at h given) (changes_same a b at h x.rows e)
     ∙ bind_same (read_changes b at h x.rows) (entry_ended cap a at h given) (entry_ended cap b at h given)
     (λ rows got. ended_same cap a b at h given rows e)) in
-    ap (λ r. if nat_le (log_worn_from h.kind) (x.header.sequence + 1) then Err (codec fault.Worn at) else r) inner
+    ap (λ r. if nat_le (log_worn_from h.kind) (x.header.sequence + 1) then Err
+    (codec fault.Worn at) else r) inner
 
 -- files that are alike from an entry's gate to the next one have the same entry
 pub entry_same : (cap top : ℕ) (a b : List ℕ) (at : ℕ) (x : Logged) → at + room_at a at ≤ length a
@@ -117,7 +121,8 @@ entry_same cap top a b at x in_a in_b same =
     let text : bytes_at a (at + 1) 55 ≡ bytes_at b (at + 1) 55 = bytes_at-same a b (at + 1) 55
     (omega (arith, long, in_a)) (omega (arith, long, in_b))
     (λ i low high. same i (omega (arith, low)) (omega (arith, high, long))) in
-    bind_same (placed_at at (read_entry_head cap count room (bytes_at a (at + 1) 55))) (entry_behind cap a at x)
+    bind_same (placed_at at (read_entry_head cap count room (bytes_at a (at + 1) 55)))
+    (entry_behind cap a at x)
     (entry_behind cap b at x) (λ h got.
     let read = head_read cap count room (bytes_at a (at + 1) 55) h
     (placed_ok at (read_entry_head cap count room (bytes_at a (at + 1) 55)) h got) in

@@ -12,7 +12,8 @@ use Rattle.slot_codec.proofs.PartLaws.{StandsAt, bytes_at-are_bytes, bytes_at-mo
 use Rattle.slot_codec.proofs.StepLaws.{bind_from, bind_ok, bind_same, from_ok, placed_ok}
 
 -- an item that a step took from these bytes
-pub record TakenItem {S A : Type 0} (after : S → A → S) (IsItem : S → A → Type 0) (spell : A → List ℕ) (s t : S)
+pub record TakenItem {S A : Type 0} (after : S → A → S) (IsItem : S → A → Type 0) (spell : A → List ℕ)
+    (s t : S)
     (bytes : List ℕ) : Type 0 where
   pub item : A
   pub fits : IsItem s item
@@ -47,7 +48,8 @@ length-items {S} {A} {step} {after} {IsItem} {spell} {len} each s (x ∷ xs) are
 pub items_read : {S A : Type 0} {step : S → List ℕ → Result S CodecFault} {after : S → A → S}
     {IsItem : S → A → Type 0} {spell : A → List ℕ} {len : ℕ} (each : TakesItems step after IsItem spell len)
     (file : List ℕ) (at : ℕ) (s : S) (xs : List A) → AreItems IsItem after s xs
-    → StandsAt file at (flat_map spell xs) → read_items step len (length xs) file at s ≡ Ok (after_items after s xs)
+    → StandsAt file at (flat_map spell xs) → read_items step len (length xs) file at s
+    ≡ Ok (after_items after s xs)
 items_read {S} {A} {step} {after} {IsItem} {spell} {len} each file at s [] are there = refl
 items_read {S} {A} {step} {after} {IsItem} {spell} {len} each file at s (x ∷ xs) are there =
     let long = each.long s x are.0 in
@@ -87,7 +89,8 @@ items_back {S} {A} {step} {after} {IsItem} {spell} {len} each (suc n) file at s 
     let all : len + len * n ≡ len * suc n = omega arith in
     let fits : at + len ≤ length file = omega (arith, within, all) in
     let rest : at + len + len * n ≤ length file = omega (arith, within, all) in
-    let r = bind_ok (placed_at at (step s (bytes_at file at len))) (read_items step len n file (at + len)) t read
+    let r = bind_ok (placed_at at (step s (bytes_at file at len)))
+    (read_items step len n file (at + len)) t read
     in
     let first = each.back s r.0 (bytes_at file at len) (length-bytes_at file at len fits)
     (bytes_at-are_bytes file at len bytes) (placed_ok at (step s (bytes_at file at len)) r.0 r.1) in
@@ -107,7 +110,8 @@ items_back {S} {A} {step} {after} {IsItem} {spell} {len} each (suc n) file at s 
     }
 
 -- they rest on their own bytes
-pub items_same : {S : Type 0} (step : S → List ℕ → Result S CodecFault) (len n : ℕ) (a b : List ℕ) (at end : ℕ)
+pub items_same : {S : Type 0} (step : S → List ℕ → Result S CodecFault) (len n : ℕ) (a b : List ℕ)
+    (at end : ℕ)
     (s : S) → at + len * n ≤ end → end ≤ length a → end ≤ length b → SameWithin at end a b
     → read_items step len n a at s ≡ read_items step len n b at s
 items_same step len zero a b at end s within in_a in_b same = refl
@@ -125,10 +129,12 @@ items_same step len (suc n) a b at end s within in_a in_b same =
 -- what each step keeps is kept
 pub items_keep : {S : Type 0} (step : S → List ℕ → Result S CodecFault) (keeps : S → ℕ)
     (each : (s t : S) (bytes : List ℕ) → step s bytes ≡ Ok t → keeps t ≡ keeps s)
-    (len n : ℕ) (file : List ℕ) (at : ℕ) (s t : S) → read_items step len n file at s ≡ Ok t → keeps t ≡ keeps s
+    (len n : ℕ) (file : List ℕ) (at : ℕ) (s t : S) → read_items step len n file at s ≡ Ok t
+    → keeps t ≡ keeps s
 items_keep step keeps each len zero file at s t read = ap keeps (sym (from_ok s t read))
 items_keep step keeps each len (suc n) file at s t read =
-    let r = bind_ok (placed_at at (step s (bytes_at file at len))) (read_items step len n file (at + len)) t read
+    let r = bind_ok (placed_at at (step s (bytes_at file at len)))
+    (read_items step len n file (at + len)) t read
     in
     items_keep step keeps each len n file (at + len) r.0 t r.2
     ∙ each s r.0 (bytes_at file at len) (placed_ok at (step s (bytes_at file at len)) r.0 r.1)

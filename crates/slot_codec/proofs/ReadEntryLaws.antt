@@ -25,7 +25,8 @@ use Rattle.slot_codec.proofs.StepLaws.{bind_from, bind_ok, guard_from, guard_ok,
 
 -- ---- the gap
 
-gap_read : (n : ℕ) (file : List ℕ) (at : ℕ) → StandsAt file at (zeros n) → read_items gap_step 1 n file at tt ≡ Ok tt
+gap_read : (n : ℕ) (file : List ℕ) (at : ℕ) → StandsAt file at (zeros n)
+    → read_items gap_step 1 n file at tt ≡ Ok tt
 gap_read zero file at there = refl
 gap_read (suc n) file at there =
     let here : bytes_at file at 1 ≡ zeros 1 = stands_bytes file at 1 (zeros 1) refl
@@ -33,11 +34,13 @@ gap_read (suc n) file at there =
     ap (λ bytes. placed_at at (gap_step tt bytes) >>= read_items gap_step 1 n file (at + 1)) here
     ∙ gap_read n file (at + 1) (stands_right file at (at + 1) (zeros 1) (zeros n) refl there)
 
-pub gap_back : (n : ℕ) (file : List ℕ) (at : ℕ) → at + n ≤ length file → read_items gap_step 1 n file at tt ≡ Ok tt
+pub gap_back : (n : ℕ) (file : List ℕ) (at : ℕ) → at + n ≤ length file
+    → read_items gap_step 1 n file at tt ≡ Ok tt
     → bytes_at file at n ≡ zeros n
 gap_back zero file at within read = refl
 gap_back (suc n) file at within read =
-    let r = bind_ok (placed_at at (gap_step tt (bytes_at file at 1))) (read_items gap_step 1 n file (at + 1)) tt read
+    let r = bind_ok (placed_at at (gap_step tt (bytes_at file at 1)))
+    (read_items gap_step 1 n file (at + 1)) tt read
     in
     let zero = guard_ok (not (are_zeros (bytes_at file at 1))) fault.Zeros (Ok tt) r.0
     (placed_ok at (gap_step tt (bytes_at file at 1)) r.0 r.1) in
@@ -76,9 +79,11 @@ lengths cap room x e few is =
     let moved = after_items moved_row x.rows e.moved in
     let left = after_items fin.remove moved e.gone in
     record {
-      cells = length-items takes_cells (record { next = 0; header = begun x.header e.head }) e.cells is.are_cells
+      cells = length-items takes_cells (record { next = 0; header = begun x.header e.head }) e.cells
+          is.are_cells
           ∙ ap (λ n. 16 * n) (sym is.cells);
-      moved = length-items takes_moves x.rows e.moved (low_moves cap room x e few is) ∙ ap (λ n. 16 * n) (sym is.moved);
+      moved = length-items takes_moves x.rows e.moved (low_moves cap room x e few is)
+          ∙ ap (λ n. 16 * n) (sym is.moved);
       gone = length-items takes_names moved e.gone is.are_changes.names ∙ ap (λ n. 64 * n) (sym is.gone);
       puts = length-items takes_puts left e.puts is.are_changes.records ∙ ap (λ n. 112 * n) (sym is.puts);
     }
@@ -104,7 +109,8 @@ entry_parts file at e l there =
     record {
       head = stands_left file (at + 1) a b s1;
       cells = stands_right file (at + 1) (at + 56) a b (omega (arith, n0)) s1;
-      moved = stands_right file (at + 1) (at + moved_from e.head) (a ++ b) c (omega (arith, n0, n1, l.cells)) s2;
+      moved = stands_right file (at + 1) (at + moved_from e.head) (a ++ b) c
+          (omega (arith, n0, n1, l.cells)) s2;
       gone = stands_right file (at + 1) (at + gone_from e.head) (a ++ b ++ c) d
           (omega (arith, n0, n1, n2, l.cells, l.moved)) s3;
       puts = stands_right file (at + 1) (at + puts_from e.head) (a ++ b ++ c ++ d) p
@@ -122,7 +128,8 @@ changes_read cap room file at x e few is p =
     let left = after_items fin.remove moved e.gone in
     let a : read_items move_step 16 h.moved file (at + moved_from h) x.rows ≡ Ok moved =
     ap (λ n. read_items move_step 16 n file (at + moved_from h) x.rows) is.moved
-    ∙ items_read takes_moves file (at + moved_from h) x.rows e.moved (low_moves cap room x e few is) p.moved in
+    ∙ items_read takes_moves file (at + moved_from h) x.rows e.moved (low_moves cap room x e few is) p.moved
+    in
     let b : read_items gone_step 64 h.gone file (at + gone_from h) moved ≡ Ok left =
     ap (λ n. read_items gone_step 64 n file (at + gone_from h) moved) is.gone
     ∙ items_read takes_names file (at + gone_from h) moved e.gone is.are_changes.names p.gone in
@@ -189,7 +196,8 @@ entry_read cap top file at x e few_cap few is there =
     (le-ltb cap (fin.len rows) is.few)
 
 -- what bytes are or begin with stands there
-pub stands_from : (file : List ℕ) (at n : ℕ) (part : List ℕ) → bytes_at file at n ≡ part → StandsAt file at part
+pub stands_from : (file : List ℕ) (at n : ℕ) (part : List ℕ) → bytes_at file at n ≡ part
+    → StandsAt file at part
 stands_from file at n part is = record {
   rest = drop n (drop at file);
   is = sym (take-append-drop n (drop at file)) ∙ ap (λ xs. xs ++ drop n (drop at file)) is;
@@ -208,7 +216,8 @@ entry_from cap top file at x e few_cap few is text = entry_read cap top file at 
     (stands_from file (at + 1) (entry_room e.head - 1) (entry_bytes e) text)
 
 -- how long its spelling is
-pub length-entry_bytes : (cap room : ℕ) (x : Logged) (e : Entry) → fin.len x.rows ≤ 2 ^ 32 → IsEntry cap room x e
+pub length-entry_bytes : (cap room : ℕ) (x : Logged) (e : Entry) → fin.len x.rows ≤ 2 ^ 32
+    → IsEntry cap room x e
     → length (entry_bytes e) + 1 ≡ entry_room e.head
 length-entry_bytes cap room x e few is =
     let l = lengths cap room x e few is in

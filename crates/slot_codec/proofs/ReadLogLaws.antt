@@ -29,7 +29,8 @@ entry_goes : (cap top : ℕ) (file : List ℕ) (at : ℕ) (x y : Logged) → rea
 entry_goes cap top file at x y read =
     let count = fin.len x.rows in
     let bytes = bytes_at file (at + 1) 55 in
-    let r = bind_ok (placed_at at (read_entry_head cap count (top - at) bytes)) (entry_behind cap file at x) y read in
+    let r = bind_ok (placed_at at (read_entry_head cap count (top - at) bytes))
+    (entry_behind cap file at x) y read in
     let h = head_read cap count (top - at) bytes r.0
     (placed_ok at (read_entry_head cap count (top - at) bytes) r.0 r.1) in
     let is : room_at file at ≡ entry_room r.0 = ap up (sym (len_of_head file at)) ∙ ap entry_room h.is in
@@ -89,8 +90,10 @@ log_closed cap top file at x closed = log_from cap top file at x x at
     record { walked = walk_closed (log_step cap top) (top / 512) file top at (Ok x) closed; closed = closed }
 
 -- alike up to the gate at which a log ends, a file has that log
-pub log_same : (cap top : ℕ) (a b : List ℕ) (at : ℕ) (x y : Logged) (end : ℕ) → top ≤ length a → top ≤ length b
-    → read_log cap top a at x ≡ Ok (y, end) → SameWithin at (end + 1) a b → read_log cap top b at x ≡ Ok (y, end)
+pub log_same : (cap top : ℕ) (a b : List ℕ) (at : ℕ) (x y : Logged) (end : ℕ) → top ≤ length a
+    → top ≤ length b
+    → read_log cap top a at x ≡ Ok (y, end) → SameWithin at (end + 1) a b
+    → read_log cap top b at x ≡ Ok (y, end)
 log_same cap top a b at x y end in_a in_b read same =
     let r = log_parts cap top a at x y end read in
     let p : Reading × ℕ = walk (log_step cap top) (top / 512) a top at (Ok x) in
@@ -99,7 +102,8 @@ log_same cap top a b at x y end in_a in_b read same =
     let alike : SameWithin at (p.1 + 1) a b = subst (λ n. SameWithin at (n + 1) a b) (sym ends) same in
     let walked = walk_same (log_step cap top) (top / 512) a b top at (Ok x) (log_step_local cap top) in_a in_b
     closed alike in
-    let grows : at ≤ end = subst (λ n. at ≤ n) ends (walk_grows (log_step cap top) (top / 512) a top at (Ok x)) in
+    let grows : at ≤ end = subst (λ n. at ≤ n) ends (walk_grows (log_step cap top) (top / 512) a top at
+    (Ok x)) in
     log_from cap top b at x y end record {
       walked = walked ∙ r.walked;
       closed = ap (λ v. v == gate_open) (sym (same end grows (omega arith))) ∙ r.closed;
@@ -131,19 +135,22 @@ appended_room cap top file at x e p =
     let h = head_read cap count (top - at) (entry_head_bytes e.head) e.head
     (entry_head_read cap count (top - at) e.head p.few_cap (omega (arith, p.few)) p.entry.head) in
     ap up (sym (len_of_head file at))
-    ∙ ap (λ b. entry_room (entry_head_of b)) (stands_bytes file (at + 1) 55 (entry_head_bytes e.head) refl there)
+    ∙ ap (λ b. entry_room (entry_head_of b)) (stands_bytes file (at + 1) 55
+    (entry_head_bytes e.head) refl there)
     ∙ ap entry_room h.is
 
-appended_closed : (cap top : ℕ) (file : List ℕ) (at : ℕ) (x : Logged) (e : Entry) → Appended cap top file at x e
+appended_closed : (cap top : ℕ) (file : List ℕ) (at : ℕ) (x : Logged) (e : Entry)
+    → Appended cap top file at x e
     → is_open file (at + entry_room e.head) ≡ false
 appended_closed cap top file at x e p =
     let n = length-entry_bytes cap (top - at) x e p.few p.entry in
     let all = stands_from file (at + 1) (entry_room e.head) (entry_bytes e ++ 0 ∷ []) p.text in
-    let there = stands_right file (at + 1) (at + entry_room e.head) (entry_bytes e) (0 ∷ []) (omega (arith, n)) all in
+    let there = stands_right file (at + 1) (at + entry_room e.head) (entry_bytes e) (0 ∷ [])
+    (omega (arith, n)) all in
     ap (λ v. v == gate_open) (stands_index file (at + entry_room e.head) 0 [] there)
 
--- Where an entry stands behind the end of a log, with a closed gate behind it, a file that is alike up to there
--- has that log while the entry's gate is closed, and the log with the entry once it is open.
+-- Where an entry stands behind the end of a log, with a closed gate behind it, a file that is alike before has
+-- that log while the entry's gate is closed, and the log with the entry once it is open.
 pub log_then : (cap top : ℕ) (a b : List ℕ) (at : ℕ) (x y : Logged) (end : ℕ) (e : Entry)
     → top ≤ length a → top ≤ length b → read_log cap top a at x ≡ Ok (y, end) → SameWithin at end a b
     → Appended cap top b end y e
@@ -197,7 +204,8 @@ cell_step-sequence g t bytes read =
     ∙ with_cell-sequence g.header r.0.0 r.0.1
 
 -- an entry has the next sequence
-pub entry_sequence : (cap top : ℕ) (file : List ℕ) (at : ℕ) (x y : Logged) → read_entry cap top file at x ≡ Ok y
+pub entry_sequence : (cap top : ℕ) (file : List ℕ) (at : ℕ) (x y : Logged)
+    → read_entry cap top file at x ≡ Ok y
     → y.header.sequence ≡ x.header.sequence + 1
 entry_sequence cap top file at x y read =
     let bytes = bytes_at file (at + 1) 55 in
