@@ -1,5 +1,5 @@
 -- Logs end at a closed gate, and files that are alike up to there have one log.
-use Rattle.std.proofs.Common.{inl, inr, ◌≡◌, ℕ, zero, suc, ◌+◌, ◌*◌, ◌<◌, ◌≤◌, true, false, ◌&&◌, List, length, refl, sym, ap, ◌∙◌, subst, arith}
+use Rattle.std.proofs.Common.{inl, inr, ◌≡◌, ℕ, zero, suc, ◌+◌, ◌*◌, ◌%◌, ◌<◌, ◌≤◌, true, false, ◌&&◌, List, length, refl, sym, ap, ◌∙◌, subst, arith}
 use Rattle.std.proofs.lemmas.Bool.{and_from, and_parts, lt-ltb, ltb-true, cases_Bool, cond-true, cond-false}
 use Rattle.std.specs.Prelude.{◌==◌, if◌then◌else◌, nat_lt}
 use Rattle.std.specs.Int.{w64, from_le_bytes}
@@ -130,7 +130,18 @@ walk_then step (suc n) m (suc k) a b top at x enough local in_a in_b same =
           subst (λ p. GoesThrough step (suc k) m b top at p.1 x p.0) (sym is) through
     ]
 
--- alike up to the closed gate at which a log ends, a file has that log
+-- alike before the gate at which a log ends, a file in which it is closed has that log
+pub walk_before : {T : Type 0} (step : List ℕ → ℕ → T → T) (n : ℕ) (a b : List ℕ) (top at : ℕ) (x : T)
+    → IsLocal step → top ≤ length a → top ≤ length b
+    → is_open b (walk step n a top at x).1 ≡ false
+    → SameWithin at (walk step n a top at x).1 a b
+    → walk step n b top at x ≡ walk step n a top at x
+walk_before step n a b top at x local in_a in_b closed same =
+    let p = walk step n a top at x in
+    let t = walk_then step n 0 n a b top at x (omega arith) local in_a in_b same in
+    t.same ∙ walk_closed step t.fuel b top p.1 p.0 closed
+
+-- and so has a file that is alike up to this gate, and at it
 pub walk_same : {T : Type 0} (step : List ℕ → ℕ → T → T) (n : ℕ) (a b : List ℕ) (top at : ℕ) (x : T)
     → IsLocal step → top ≤ length a → top ≤ length b
     → is_open a (walk step n a top at x).1 ≡ false
@@ -139,11 +150,9 @@ pub walk_same : {T : Type 0} (step : List ℕ → ℕ → T → T) (n : ℕ) (a 
 walk_same step n a b top at x local in_a in_b closed same =
     let end = (walk step n a top at x).1 in
     let grows = walk_grows step n a top at x in
-    let front : SameWithin at end a b = λ i l h. same i l (omega (arith, h)) in
-    let t = walk_then step n 0 n a b top at x (omega arith) local in_a in_b front in
     let gate : is_open b end ≡ false =
     ap (λ v. v == gate_open) (sym (same end (omega (arith, grows)) (omega arith))) ∙ closed in
-    t.same ∙ walk_closed step t.fuel b top end (walk step n a top at x).0 gate
+    walk_before step n a b top at x local in_a in_b gate (λ i l h. same i l (omega (arith, h)))
 
 -- from its end on: the log as it was, or one entry more
 at_end : {T : Type 0} (step : List ℕ → ℕ → T → T) (fuel : ℕ) (b : List ℕ) (top end : ℕ) (y : T)
@@ -265,4 +274,36 @@ walk_relates R step other each (suc n) file top at x u r =
           subst (λ p. R p.0 (walk other (suc n) file top at u).0)
           (sym (cond-false (goes_on file top at) a (x, at) off))
           (subst (λ q. R x q.0) (sym (cond-false (goes_on file top at) b (u, at) off)) r)
+    ]
+
+-- ---- where it stands
+
+-- a place of a log: behind the first gate, below the top, and at a multiple of 512
+pub record IsPlace (top at end : ℕ) : Type 0 where
+  pub behind : at ≤ end
+  pub below : end < top
+  pub multiple : end % 512 ≡ 0
+
+-- a log that begins at such a place ends at one
+pub walk_place : {T : Type 0} (step : List ℕ → ℕ → T → T) (n : ℕ) (file : List ℕ) (top at : ℕ) (x : T)
+    → at < top → at % 512 ≡ 0 → IsPlace top at (walk step n file top at x).1
+walk_place step zero file top at x below multiple =
+    record { behind = omega arith; below = below; multiple = multiple }
+walk_place step (suc n) file top at x below multiple =
+    let len = room_at file at in
+    let more = walk step n file top (at + len) (step file at x) in
+    elim (cases_Bool (goes_on file top at)) [
+      | inl on ↦
+          let g = goes_on_parts file top at on in
+          let later = walk_place step n file top (at + len) (step file at x) g.whole (omega (arith, multiple)) in
+          let place : IsPlace top at more.1 = record {
+            behind = omega (arith, later.behind);
+            below = later.below;
+            multiple = later.multiple;
+          } in
+          subst (λ p. IsPlace top at p.1) (sym (cond-true (goes_on file top at) more (x, at) on)) place
+      | inr off ↦
+          let place : IsPlace top at at =
+          record { behind = omega arith; below = below; multiple = multiple } in
+          subst (λ p. IsPlace top at p.1) (sym (cond-false (goes_on file top at) more (x, at) off)) place
     ]

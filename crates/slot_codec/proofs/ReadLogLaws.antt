@@ -1,5 +1,5 @@
 -- What a log is read to: where it ends, what it rests on, and what an entry behind it makes of it.
-use Rattle.std.proofs.Common.{inl, inr, ◌≡◌, ℕ, suc, ◌+◌, ◌-◌, ◌/◌, ◌<◌, ◌≤◌, ◌^◌, true, false, List, [], ◌∷◌, ◌++◌, length, refl, sym, ap, ◌∙◌, subst, arith}
+use Rattle.std.proofs.Common.{inl, inr, ◌≡◌, ℕ, suc, ◌+◌, ◌-◌, ◌/◌, ◌%◌, ◌<◌, ◌≤◌, ◌^◌, true, false, List, [], ◌∷◌, ◌++◌, length, refl, sym, ap, ◌∙◌, subst, arith}
 use Rattle.std.proofs.lemmas.Bool.{cases_Bool, cond-false, cond-true}
 use Rattle.std.specs.FinMap as fin
 use Rattle.std.specs.Prelude.{◌==◌, if◌then◌else◌, nat_le, nat_lt, Ok, Err}
@@ -16,7 +16,7 @@ use Rattle.slot_codec.specs.declared.codec.CodecFault.TheVariants as fault
 use Rattle.slot_codec.proofs.EntryLaws.{entry_head_read}
 use Rattle.slot_codec.proofs.EntryPlaceLaws.{head_read, len_of_head, log_step_local}
 use Rattle.slot_codec.proofs.ItemLaws.{items_keep}
-use Rattle.slot_codec.proofs.LogLaws.{entry_there, goes_on_from, walk_beside, walk_closed, walk_ends, walk_grows, walk_more, walk_relates, walk_same}
+use Rattle.slot_codec.proofs.LogLaws.{IsPlace, entry_there, goes_on_from, walk_before, walk_beside, walk_closed, walk_ends, walk_grows, walk_more, walk_place, walk_relates, walk_same}
 use Rattle.slot_codec.proofs.PartLaws.{stands_bytes, stands_index, stands_right}
 use Rattle.slot_codec.proofs.ReadEntryLaws.{begins_with, head_stands, entry_behind, entry_ended, entry_read, length-entry_bytes, stands_from}
 use Rattle.slot_codec.proofs.StepLaws.{bind_ok, from_ok, guard_ok, placed_ok}
@@ -24,7 +24,7 @@ use Rattle.slot_codec.proofs.StepLaws.{bind_ok, from_ok, guard_ok, placed_ok}
 -- ---- where it ends
 
 -- an entry that is read stands below the top, with the next gate
-entry_goes : (cap top : ℕ) (file : List ℕ) (at : ℕ) (x y : Logged) → read_entry cap top file at x ≡ Ok y
+pub entry_goes : (cap top : ℕ) (file : List ℕ) (at : ℕ) (x y : Logged) → read_entry cap top file at x ≡ Ok y
     → at + room_at file at < top
 entry_goes cap top file at x y read =
     let count = fin.len x.rows in
@@ -89,25 +89,43 @@ pub log_closed : (cap top : ℕ) (file : List ℕ) (at : ℕ) (x : Logged) → i
 log_closed cap top file at x closed = log_from cap top file at x x at
     record { walked = walk_closed (log_step cap top) (top / 512) file top at (Ok x) closed; closed = closed }
 
--- alike up to the gate at which a log ends, a file has that log
-pub log_same : (cap top : ℕ) (a b : List ℕ) (at : ℕ) (x y : Logged) (end : ℕ) → top ≤ length a
-    → top ≤ length b
-    → read_log cap top a at x ≡ Ok (y, end) → SameWithin at (end + 1) a b
-    → read_log cap top b at x ≡ Ok (y, end)
-log_same cap top a b at x y end in_a in_b read same =
+-- alike before the gate at which a log ends, a file in which it is closed has that log
+pub log_before : (cap top : ℕ) (a b : List ℕ) (at : ℕ) (x y : Logged) (end : ℕ) → top ≤ length a
+    → top ≤ length b → read_log cap top a at x ≡ Ok (y, end) → SameWithin at end a b
+    → is_open b end ≡ false → read_log cap top b at x ≡ Ok (y, end)
+log_before cap top a b at x y end in_a in_b read same closed =
     let r = log_parts cap top a at x y end read in
     let p : Reading × ℕ = walk (log_step cap top) (top / 512) a top at (Ok x) in
     let ends : p.1 ≡ end = ap (λ q. q.1) r.walked in
-    let closed : is_open a p.1 ≡ false = ap (is_open a) ends ∙ r.closed in
-    let alike : SameWithin at (p.1 + 1) a b = subst (λ n. SameWithin at (n + 1) a b) (sym ends) same in
-    let walked = walk_same (log_step cap top) (top / 512) a b top at (Ok x) (log_step_local cap top) in_a in_b
-    closed alike in
-    let grows : at ≤ end = subst (λ n. at ≤ n) ends (walk_grows (log_step cap top) (top / 512) a top at
-    (Ok x)) in
-    log_from cap top b at x y end record {
-      walked = walked ∙ r.walked;
-      closed = ap (λ v. v == gate_open) (sym (same end grows (omega arith))) ∙ r.closed;
-    }
+    let gate : is_open b p.1 ≡ false = ap (is_open b) ends ∙ closed in
+    let alike : SameWithin at p.1 a b = subst (λ n. SameWithin at n a b) (sym ends) same in
+    let walked = walk_before (log_step cap top) (top / 512) a b top at (Ok x) (log_step_local cap top) in_a in_b
+    gate alike in
+    log_from cap top b at x y end record { walked = walked ∙ r.walked; closed = closed }
+
+-- it ends no earlier than it begins; and from a multiple of 512 below the top on, at another one
+pub log_grows : (cap top : ℕ) (file : List ℕ) (at : ℕ) (x y : Logged) (end : ℕ)
+    → read_log cap top file at x ≡ Ok (y, end) → at ≤ end
+log_grows cap top file at x y end read =
+    let r = log_parts cap top file at x y end read in
+    subst (λ p. at ≤ p.1) r.walked (walk_grows (log_step cap top) (top / 512) file top at (Ok x))
+
+pub log_place : (cap top : ℕ) (file : List ℕ) (at : ℕ) (x y : Logged) (end : ℕ) → at < top → at % 512 ≡ 0
+    → read_log cap top file at x ≡ Ok (y, end) → IsPlace top at end
+log_place cap top file at x y end below multiple read =
+    let r = log_parts cap top file at x y end read in
+    let place = walk_place (log_step cap top) (top / 512) file top at (Ok x) below multiple in
+    subst (λ p. IsPlace top at p.1) r.walked place
+
+-- alike up to the gate at which a log ends, and at it, a file has that log
+pub log_same : (cap top : ℕ) (a b : List ℕ) (at : ℕ) (x y : Logged) (end : ℕ) → top ≤ length a
+    → top ≤ length b → read_log cap top a at x ≡ Ok (y, end) → SameWithin at (end + 1) a b
+    → read_log cap top b at x ≡ Ok (y, end)
+log_same cap top a b at x y end in_a in_b read same =
+    let grows = log_grows cap top a at x y end read in
+    let gate : is_open b end ≡ false = ap (λ v. v == gate_open) (sym (same end grows (omega arith)))
+    ∙ log_ends_closed cap top a at x y end read in
+    log_before cap top a b at x y end in_a in_b read (λ i l h. same i l (omega (arith, h))) gate
 
 -- ---- an entry behind it
 
@@ -118,12 +136,12 @@ pub record Appended (cap top : ℕ) (file : List ℕ) (at : ℕ) (x : Logged) (e
   pub few : fin.len x.rows ≤ 2 ^ 32
   pub few_cap : cap < 2 ^ 64
 
-appended_read : (cap top : ℕ) (file : List ℕ) (at : ℕ) (x : Logged) (e : Entry) → Appended cap top file at x e
+pub appended_read : (cap top : ℕ) (file : List ℕ) (at : ℕ) (x : Logged) (e : Entry) → Appended cap top file at x e
     → read_entry cap top file at x ≡ Ok (after_entry x e)
 appended_read cap top file at x e p = entry_read cap top file at x e p.few_cap p.few p.entry
     (begins_with file (at + 1) (entry_room e.head) (entry_bytes e) (0 ∷ []) p.text)
 
-appended_room : (cap top : ℕ) (file : List ℕ) (at : ℕ) (x : Logged) (e : Entry) → Appended cap top file at x e
+pub appended_room : (cap top : ℕ) (file : List ℕ) (at : ℕ) (x : Logged) (e : Entry) → Appended cap top file at x e
     → room_at file at ≡ entry_room e.head
 appended_room cap top file at x e p =
     let count = fin.len x.rows in
@@ -139,7 +157,7 @@ appended_room cap top file at x e p =
     (entry_head_bytes e.head) refl there)
     ∙ ap entry_room h.is
 
-appended_closed : (cap top : ℕ) (file : List ℕ) (at : ℕ) (x : Logged) (e : Entry)
+pub appended_closed : (cap top : ℕ) (file : List ℕ) (at : ℕ) (x : Logged) (e : Entry)
     → Appended cap top file at x e
     → is_open file (at + entry_room e.head) ≡ false
 appended_closed cap top file at x e p =
@@ -149,8 +167,8 @@ appended_closed cap top file at x e p =
     (omega (arith, n)) all in
     ap (λ v. v == gate_open) (stands_index file (at + entry_room e.head) 0 [] there)
 
--- Where an entry stands behind the end of a log, with a closed gate behind it, a file that is alike before has
--- that log while the entry's gate is closed, and the log with the entry once it is open.
+-- Where an entry stands behind the end of a log, with a closed gate behind it, a file that is alike before it
+-- has that log while the entry's gate is closed, and the log with the entry once it is open.
 pub log_then : (cap top : ℕ) (a b : List ℕ) (at : ℕ) (x y : Logged) (end : ℕ) (e : Entry)
     → top ≤ length a → top ≤ length b → read_log cap top a at x ≡ Ok (y, end) → SameWithin at end a b
     → Appended cap top b end y e
@@ -265,6 +283,19 @@ unfolding log_end
 log_end_same a b top at in_a in_b closed same =
     walk_same (λ file at n. n + 1) (top / 512) a b top at 0 count_local in_a in_b closed same
 
+pub log_end_before : (a b : List ℕ) (top at : ℕ) → top ≤ length a → top ≤ length b
+    → is_open b (log_end a top at).1 ≡ false → SameWithin at (log_end a top at).1 a b
+    → log_end b top at ≡ log_end a top at
+unfolding log_end
+log_end_before a b top at in_a in_b closed same =
+    walk_before (λ file at n. n + 1) (top / 512) a b top at 0 count_local in_a in_b closed same
+
+pub log_end_place : (file : List ℕ) (top at : ℕ) → at < top → at % 512 ≡ 0
+    → IsPlace top at (log_end file top at).1
+unfolding log_end
+log_end_place file top at below multiple =
+    walk_place (λ file at n. n + 1) (top / 512) file top at 0 below multiple
+
 pub log_end_then : (a b : List ℕ) (top at n end : ℕ) → top ≤ length a → top ≤ length b
     → log_end a top at ≡ (n, end) → is_open a end ≡ false → SameWithin at end a b → end + room_at b end < top
     → is_open b (end + room_at b end) ≡ false
@@ -275,3 +306,17 @@ log_end_then a b top at n end in_a in_b was closed same whole next =
     let one : suc (top / 512) ≡ top / 512 + 1 = omega arith in
     sym (walk_more count (top / 512) b top at 0 (omega arith)) ∙ ap (λ k. walk count k b top at 0) one
     ∙ entry_there count (top / 512) a b top at end 0 n count_local in_a in_b was closed same whole next
+
+-- the same where an entry was appended
+pub log_end_appended : (cap top : ℕ) (a b : List ℕ) (at n end : ℕ) (y : Logged) (e : Entry) → top ≤ length a
+    → top ≤ length b → log_end a top at ≡ (n, end) → is_open a end ≡ false → SameWithin at end a b
+    → Appended cap top b end y e
+    → log_end b top at ≡ (if is_open b end then (n + 1, end + entry_room e.head) else (n, end))
+log_end_appended cap top a b at n end y e in_a in_b was closed same p =
+    let room = appended_room cap top b end y e p in
+    let entry = appended_read cap top b end y e p in
+    let next : is_open b (end + room_at b end) ≡ false =
+    ap (λ n. is_open b (end + n)) room ∙ appended_closed cap top b end y e p in
+    log_end_then a b top at n end in_a in_b was closed same
+    (entry_goes cap top b end y (after_entry y e) entry) next
+    ∙ ap (λ (k : ℕ). if is_open b end then (n + 1, end + k) else (n, end)) room
