@@ -11,10 +11,11 @@ use Rattle.byte_ranges.specs.Lists.{below, counting_from}
 use Rattle.byte_ranges.proofs.ListLaws.{length-below}
 use Rattle.slot_codec.specs.Cells.{cell_of, cells_of, header_cells, with_cell, with_used, without_cells}
 use Rattle.slot_codec.specs.Items.{AreItems, after_items}
-use Rattle.slot_codec.specs.Logs.{Given, IsCell, with_given}
+use Rattle.slot_codec.specs.Logs.{Given, IsCell, begun, with_given}
 use Rattle.slot_codec.specs.Readable.{IsFull, IsHeader}
 use Rattle.slot_codec.specs.Reading.{all_in_range, is_in_range}
 use Rattle.slot_codec.specs.declared.codec.Header.{Header}
+use Rattle.slot_codec.specs.declared.entry.EntryHead.{EntryHead}
 
 -- the tables of a header are full
 record AreFull (h : Header) : Type 0 where
@@ -382,3 +383,7 @@ header_full names h is = record {
   used_full = is.used_full;
   rows_full = is.rows_full;
 }
+
+-- the header behind an entry's head has no cells
+pub begun_bare : (x : Header) (head : EntryHead) → without_cells (begun x head) ≡ begun x head
+begun_bare x head = refl

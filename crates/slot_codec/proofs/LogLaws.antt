@@ -295,7 +295,8 @@ walk_place step (suc n) file top at x below multiple =
     elim (cases_Bool (goes_on file top at)) [
       | inl on ↦
           let g = goes_on_parts file top at on in
-          let later = walk_place step n file top (at + len) (step file at x) g.whole (omega (arith, multiple)) in
+          let later = walk_place step n file top (at + len) (step file at x) g.whole
+          (omega (arith, multiple)) in
           let place : IsPlace top at more.1 = record {
             behind = omega (arith, later.behind);
             below = later.below;

@@ -99,8 +99,8 @@ log_before cap top a b at x y end in_a in_b read same closed =
     let ends : p.1 ≡ end = ap (λ q. q.1) r.walked in
     let gate : is_open b p.1 ≡ false = ap (is_open b) ends ∙ closed in
     let alike : SameWithin at p.1 a b = subst (λ n. SameWithin at n a b) (sym ends) same in
-    let walked = walk_before (log_step cap top) (top / 512) a b top at (Ok x) (log_step_local cap top) in_a in_b
-    gate alike in
+    let walked = walk_before (log_step cap top) (top / 512) a b top at (Ok x) (log_step_local cap top) in_a
+    in_b gate alike in
     log_from cap top b at x y end record { walked = walked ∙ r.walked; closed = closed }
 
 -- it ends no earlier than it begins; and from a multiple of 512 below the top on, at another one
@@ -136,13 +136,13 @@ pub record Appended (cap top : ℕ) (file : List ℕ) (at : ℕ) (x : Logged) (e
   pub few : fin.len x.rows ≤ 2 ^ 32
   pub few_cap : cap < 2 ^ 64
 
-pub appended_read : (cap top : ℕ) (file : List ℕ) (at : ℕ) (x : Logged) (e : Entry) → Appended cap top file at x e
-    → read_entry cap top file at x ≡ Ok (after_entry x e)
+pub appended_read : (cap top : ℕ) (file : List ℕ) (at : ℕ) (x : Logged) (e : Entry)
+    → Appended cap top file at x e → read_entry cap top file at x ≡ Ok (after_entry x e)
 appended_read cap top file at x e p = entry_read cap top file at x e p.few_cap p.few p.entry
     (begins_with file (at + 1) (entry_room e.head) (entry_bytes e) (0 ∷ []) p.text)
 
-pub appended_room : (cap top : ℕ) (file : List ℕ) (at : ℕ) (x : Logged) (e : Entry) → Appended cap top file at x e
-    → room_at file at ≡ entry_room e.head
+pub appended_room : (cap top : ℕ) (file : List ℕ) (at : ℕ) (x : Logged) (e : Entry)
+    → Appended cap top file at x e → room_at file at ≡ entry_room e.head
 appended_room cap top file at x e p =
     let count = fin.len x.rows in
     let bytes = bytes_at file (at + 1) 55 in
