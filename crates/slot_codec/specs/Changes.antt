@@ -7,7 +7,8 @@ use Rattle.slot_codec.specs.declared.delta.ChangeKind.{ChangeKind}
 use Rattle.slot_codec.specs.declared.delta.ChangeKind.TheVariants as kind
 use Rattle.slot_codec.specs.declared.codec.Record.{Record}
 
--- a name has what it had; its object stands elsewhere, by its rank by name then; it is gone; or it has this record
+-- a name has what it had; its object stands elsewhere, by its rank by name then; it is gone; or it has this
+-- record
 pub data Change : Type 0 where
   same : Change
   moved : ℕ → ℕ → Change
@@ -58,8 +59,8 @@ puts_of (same ∷ cs) = puts_of cs
 puts_of (moved rank place ∷ cs) = puts_of cs
 puts_of (gone name ∷ cs) = puts_of cs
 
--- No more objects were moved and no more names are gone than there were, and no more records are put than there
--- are now.
+-- No more objects were moved and no more names are gone than there were, and no more records are put than
+-- there are now.
 pub record AreFew (before now : List Record) (changes : List Change) : Type 0 where
   pub moved : length (moves_of changes) ≤ length before
   pub gone : length (gone_of changes) ≤ length before

@@ -40,8 +40,8 @@ has_too_many cap count h = nat_lt header_cells h.cells || nat_lt count h.moved |
 abbrev pub up : ℕ → ℕ
 up n = (n + 511) / 512 * 512
 
--- how long an entry is, with its gate: 56 bytes, 16 for each cell and each moved object, 64 for each name that
--- is gone, and 112 for each record put
+-- how long an entry is, with its gate: 56 bytes, 16 for each cell and each moved object, 64 for each name
+-- that is gone, and 112 for each record put
 abbrev pub entry_len : EntryHead → ℕ
 entry_len h = 56 + 16 * (h.cells + h.moved) + 64 * h.gone + 112 * h.puts
 
@@ -49,8 +49,8 @@ entry_len h = 56 + 16 * (h.cells + h.moved) + 64 * h.gone + 112 * h.puts
 abbrev pub entry_room : EntryHead → ℕ
 entry_room h = up (entry_len h)
 
--- What 55 bytes say, or the first fault in them, behind a table of `count` names in a slot for `cap` records. From
--- the entry's gate on the log has `room` bytes, and the gate behind the entry is one of them.
+-- What 55 bytes say, or the first fault in them, behind a table of `count` names in a slot for `cap` records.
+-- From the entry's gate on the log has `room` bytes, and the gate behind the entry is one of them.
 unfoldable pub read_entry_head : ℕ → ℕ → ℕ → List ℕ → Result EntryHead CodecFault
 read_entry_head cap count room bytes =
     let h = entry_head_of bytes in
@@ -83,8 +83,8 @@ pair_at bytes at = (number_at bytes at, number_at bytes (at + 8))
 
 -- ---- the whole entry
 
--- What an entry says. Of a cell, which number of a header and its value; of a moved object, its rank by name in
--- the table before the entry, and its new place.
+-- What an entry says. Of a cell, which number of a header and its value; of a moved object, its rank by name
+-- in the table before the entry, and its new place.
 pub record Entry : Type 0 where
   pub head : EntryHead
   pub cells : List (ℕ × ℕ)

@@ -20,7 +20,8 @@ use Rattle.slot_codec.specs.declared.codec.CodecFault.TheVariants as fault
 
 -- ---- where it stands
 
--- The first gate of a slot's log stands at the next multiple of 512 behind the records, which have 112 bytes each.
+-- The first gate of a slot's log stands at the next multiple of 512 behind the records, which have 112 bytes
+-- each.
 abbrev pub first_gate : ℕ → ℕ → ℕ → ℕ
 first_gate names slot count = up (slot_at names slot + header_len + 112 * count)
 
@@ -128,9 +129,9 @@ read_changes file at h rows =
     read_items gone_step 64 h.gone file (at + gone_from h) moved >>= λ left.
     read_items put_step 112 h.puts file (at + puts_from h) left
 
--- The table behind the entry whose gate stands at a position, or the first fault in the entry: in its head, its
--- cells, moves, names and records, the gap behind it, and then that there are too many names. The log ends
--- below the top.
+-- The table behind the entry whose gate stands at a position, or the first fault in the entry: in its head,
+-- its cells, moves, names and records, the gap behind it, and then that there are too many names. The log
+-- ends below the top.
 abbrev pub read_entry : ℕ → ℕ → List ℕ → ℕ → Logged → Result Logged SlotRefusal
 read_entry cap top file at x =
     placed_at at (read_entry_head cap (fin.len x.rows) (top - at) (bytes_at file (at + 1) 55)) >>= λ h.
@@ -185,8 +186,8 @@ ends_closed cap top file p =
     (if is_open file p.1 then read_entry cap top file p.1 y else Ok y) >>= λ z.
     Ok (z, p.1)
 
--- The table behind a log whose first gate stands at a position, and where the next entry would stand. Each entry
--- takes 512 bytes at least.
+-- The table behind a log whose first gate stands at a position, and where the next entry would stand. Each
+-- entry takes 512 bytes at least.
 unfoldable pub read_log : ℕ → ℕ → List ℕ → ℕ → Logged → Result (Logged × ℕ) SlotRefusal
 read_log cap top file at x =
     ends_closed cap top file (walk (log_step cap top) (top / 512) file top at (Ok x))
