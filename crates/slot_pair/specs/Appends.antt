@@ -1,7 +1,6 @@
 -- An entry that is written behind a log, and what is left meanwhile. No file of the program has a log yet.
-use Rattle.std.specs.Prelude.{◌≡◌, ◌⊎◌, ℕ, ◌+◌, ◌*◌, ◌/◌, IsTrue, true, false, List, [], ◌∷◌, ◌++◌, length}
+use Rattle.std.specs.Prelude.{◌≡◌, ◌⊎◌, ℕ, ◌+◌, ◌/◌, true, false, List, [], ◌∷◌, ◌++◌, length}
 use Rattle.byte_ranges.specs.Ranges.{SameOutside, bytes_at}
-use Rattle.disk_face.specs.Frames.{call_weight}
 use Rattle.disk_face.specs.Moments.{Leaves, Rests}
 use Rattle.disk_face.specs.States.{State}
 use Rattle.slot_codec.specs.Cells.{cells_of}
@@ -56,8 +55,9 @@ pub record IsAppended (at : ℕ) (e : Entry) (b : State) : Type 0 where
   pub there : HasEntry at e b.file
   pub rests : Rests b
 
--- What an append may leave at any moment, from images that had `may_leave`: an image or the content of before,
--- but for the entry's bytes, with the entry's gate closed; or the content of before, with the whole entry.
+-- What an append may leave at any moment, from images that had `may_leave`: an image or the content of
+-- before, but for the entry's bytes, with the entry's gate closed; or the content of before, with the whole
+-- entry.
 pub record LeavesClosed (at room : ℕ) (may_leave : List ℕ → Type 0) (file image : List ℕ) : Type 0 where
   pub before : List ℕ
   pub was : may_leave before ⊎ (before ≡ file)
@@ -68,8 +68,8 @@ pub record LeavesEntry (at : ℕ) (e : Entry) (file image : List ℕ) : Type 0 w
   pub others : SameOutside at (entry_room e.head + 1) file image
   pub there : HasEntry at e image
 
--- What an append leaves, whether or not it fails, where the entry's gate is closed at first, in the content and
--- in each image.
+-- What an append leaves, whether or not it fails, where the entry's gate is closed at first, in the content
+-- and in each image.
 pub record AppendLeaves (at : ℕ) (e : Entry) (a b : State) : Type 0 where
   pub content : is_open a.file at ≡ false → (is_open b.file at ≡ false) ⊎ HasEntry at e b.file
   pub images : is_open a.file at ≡ false
