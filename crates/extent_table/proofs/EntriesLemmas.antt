@@ -39,6 +39,17 @@ count_of (s ∷ ss) (x ∷ xs) = sum_by-cons one (entry_of x s) (entries_of ss x
     ∙ ap (λ b. cond b 1 0 + count_by is_some (entries_of ss xs)) (some_entry x s)
     ∙ ap (λ n. one s + n) (count_of ss xs) ∙ sym (sum_by-cons one s ss)
 
+-- records that say the same of what stands give the same entries
+pub same_entries : (ss : List (Option Standing)) (xs ys : List Kept)
+    → ((k : ℕ) → entry_of (kept_in ys k) (get_or ss k None) ≡ entry_of (kept_in xs k) (get_or ss k None))
+    → entries_of ss ys ≡ entries_of ss xs
+unfolding entries_of
+same_entries [] xs ys same = refl
+same_entries (s ∷ ss) [] [] same = refl
+same_entries (s ∷ ss) [] (y ∷ ys) same = λ i. same 0 i ∷ same_entries ss [] ys (λ k. same (suc k)) i
+same_entries (s ∷ ss) (x ∷ xs) [] same = λ i. same 0 i ∷ same_entries ss xs [] (λ k. same (suc k)) i
+same_entries (s ∷ ss) (x ∷ xs) (y ∷ ys) same = λ i. same 0 i ∷ same_entries ss xs ys (λ k. same (suc k)) i
+
 -- an entry that has a side
 abbrev HasSide : Option Entry → Type 0
 HasSide e = IsSome e → IsSome (now_of e) ⊎ IsSome (kept_of e)

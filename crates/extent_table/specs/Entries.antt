@@ -1,5 +1,5 @@
 -- What is known of a name, and how it is put together by key.
-use Rattle.std.specs.Prelude.{◌≡◌, ℕ, List, [], ◌∷◌, Option, Some, None, slice_index_or, refl}
+use Rattle.std.specs.Prelude.{◌≡◌, ℕ, ◌<◌, List, [], ◌∷◌, count_by, Option, Some, None, is_some, slice_index_or, refl}
 use Rattle.std.specs.Coded.{Coded, code_by, coded×, coded_ℕ, coded_list, coded_option}
 use Rattle.extent_table.specs.declared.spot.Spot.{Spot}
 use Rattle.extent_table.specs.declared.kept.Kept.{Kept}
@@ -17,6 +17,22 @@ abbrev pub entry_code : Coded Entry
 entry_code = code_by (List ℕ × (Option Spot × Option Spot))
     (coded× (coded_list coded_ℕ) (coded× (coded_option spot_code) (coded_option spot_code)))
     (λ e. (e.name, (e.now, e.kept))) (λ p. record { name = p.0; now = p.1.0; kept = p.1.1 }) (λ _. refl)
+
+-- the entry or nothing at each key, how many entries fit, and the keys that changed since the last checkpoint
+pub record Shelf : Type 0 where
+  pub slots : List (Option Entry)
+  pub capacity : ℕ
+  pub changed : List ℕ
+
+abbrev pub shelf_code : Coded Shelf
+shelf_code = code_by (List (Option Entry) × (ℕ × List ℕ))
+    (coded× (coded_list (coded_option entry_code)) (coded× coded_ℕ (coded_list coded_ℕ)))
+    (λ s. (s.slots, (s.capacity, s.changed)))
+    (λ p. record { slots = p.0; capacity = p.1.0; changed = p.1.1 }) (λ _. refl)
+
+-- another entry fits
+abbrev pub HasSpace : Shelf → Type 0
+HasSpace s = count_by is_some s.slots < s.capacity
 
 -- a name, and where its object stands now
 pub record Standing : Type 0 where

@@ -20,11 +20,12 @@ kept_spot Same now = now
 kept_spot New now = None
 kept_spot (Old s) now = Some s
 
--- a list has each key that changed, and no more keys than changed
+-- a list has each key that changed, once, and no other
 pub record AreChanges (kept : List Kept) (changed : List ℕ) : Type 0 where
   pub count : length changed ≡ count_by is_change kept
   pub whole : (key : ℕ) → IsTrue (is_change (kept_in kept key))
       → (i : ℕ) × (i < length changed) × (slice_index changed i ≡ key)
+  pub only : (i : ℕ) → i < length changed → IsTrue (is_change (kept_in kept (slice_index changed i)))
 
 -- the record of a key that changes from this
 abbrev pub kept_as : Option Spot → Kept

@@ -4,17 +4,16 @@
 -- and `changed` lists the keys at which it is. Both have room for all keys of the slab. `spare` is a slab of
 -- no names, with the same room.
 use Rattle.std.specs.Prelude.{◌≡◌, ◌≤◌, [], length, vec_capacity}
-use Rattle.slab.specs.Slab.{Slab}
 use Rattle.extent_table.specs.declared.entry.Entries.TheInside.{Inside}
-use Rattle.extent_table.specs.Entries.{Entry, entries_of}
+use Rattle.extent_table.specs.Entries.{Shelf, entries_of}
 use Rattle.extent_table.specs.Kept.{AreChanges}
 
--- the entries by key
-abbrev pub entries_in : Inside → Slab Entry
+-- the entries by key, and which of them changed
+abbrev pub entries_in : Inside → Shelf
 entries_in e = record {
   slots = entries_of e.standing.slots e.kept.items;
-  vacant_key = e.standing.vacant_key;
   capacity = e.standing.capacity;
+  changed = e.changed.items;
 }
 
 pub record IsShelved (e : Inside) : Type 0 where

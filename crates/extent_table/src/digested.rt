@@ -5,6 +5,7 @@ ghost use Rattle.extent_table.specs.Extents.{IsLive, IsTable};
 
 use crate::Table;
 use crate::digests::{digest_at, put_digest};
+use crate::entry::mark;
 use crate::order::search;
 use slot_codec::Name;
 
@@ -54,6 +55,7 @@ impl Table {
     {
         let place = search(&self.entries, &self.order, name).unwrap();
         let key = self.order[place];
+        mark(&mut self.entries, key);
         put_digest(&self.entries, &mut self.digests, key, digest);
     }
 }

@@ -1,8 +1,8 @@
 //! Digests by key. Past the end of the list each key has zeros, so a table without digests writes none.
 ghost use Rattle.std.specs.Prelude.{◌≡◌, ◌≢◌, ℕ, ◌<◌, ◌≤◌, [], length, IsSome, IfOk, slice_index, vec_capacity};
-ghost use Rattle.extent_table.specs.Parts.{IsDigestList, at, digest_in};
+ghost use Rattle.extent_table.specs.Parts.{Agree, IsDigestList, at, digest_in};
 
-use crate::entry::{Entries, entry_room};
+use crate::entry::{Entries, changed_keys, entry_room};
 use slot_codec::NoMemory;
 use std::alloc::Global;
 
@@ -78,7 +78,22 @@ pub(crate) fn put_digest(entries: &Entries, digests: &mut Vec<[u8; 32]>, key: u3
     put(digests, entry_room(entries), key, digest);
 }
 
-/// Copies all digests, at a checkpoint or as a table goes back to one.
+/// Copies the digests of the keys that changed, at a checkpoint or as a table goes back to one.
+pub(crate) fn copy_changed(entries: &Entries, from: &[[u8; 32]], to: &mut Vec<[u8; 32]>)
+    requires agree { Agree entries.now.changed to.old.items from.now }
+    requires list { IsDigestList entries.now.capacity to.old.items (vec_capacity to.old) }
+    ensures list { IsDigestList entries.now.capacity to.new.items (vec_capacity to.new) }
+    ensures same { (k : ℕ) → digest_in to.new.items k ≡ digest_in from.now k }
+{
+    let keys = changed_keys(entries);
+    let room = entry_room(entries);
+    'keys: for key in keys {
+        let digest = digest_at(from, *key);
+        put(to, room, *key, digest);
+    }
+}
+
+/// Copies all digests, of entries that were laid out anew.
 pub(crate) fn copy_digests(to: &mut Vec<[u8; 32]>, from: &[[u8; 32]])
     requires { length from.now ≤ vec_capacity to.old }
     ensures items { to.new.items ≡ from.now }

@@ -1,7 +1,7 @@
 //! What was kept under each key, where it isn't what stands there now, and the list of those keys.
 //! Past the end of the records each key has what stands there, so a key that never changed has none.
 ghost use Rattle.std.specs.Prelude.{◌≡◌, ℕ, ◌<◌, ◌≤◌, [], length, count_by, vec_capacity, IsTrue, IfOk};
-ghost use Rattle.extent_table.specs.Kept.{kept_in, kept_as, is_change, AreChanges};
+ghost use Rattle.extent_table.specs.{Kept.{kept_in, kept_as, is_change, AreChanges}, Parts.{Notes}};
 
 use crate::Spot;
 use slot_codec::NoMemory;
@@ -103,6 +103,7 @@ pub(crate) fn note(kept: &mut Vec<Kept>, changed: &mut Vec<u32>, room: usize, ke
     requires change { IsTrue (is_change was) }
     ensures changes { AreChanges kept.new.items changed.new.items }
     ensures here { kept_in kept.new.items key ≡ was }
+    ensures noted { Notes changed.old.items changed.new.items key }
     ensures others { (k : ℕ) → (k ≡ key → ⊥) → kept_in kept.new.items k ≡ kept_in kept.old.items k }
     ensures short { length kept.new.items ≤ room }
     ensures kept_capacity { vec_capacity kept.new ≡ vec_capacity kept.old }

@@ -1,7 +1,7 @@
 //! Names by key with where their objects stand now, and the two ways to take one side for the other.
 ghost use Rattle.std.specs.Prelude.{◌≡◌, ℕ, ◌<◌, ◌≤◌, ◌^◌, [], Some, IsSome, IfSome, IsTrue, length, slice_index, vec_capacity};
 ghost use Rattle.slab.specs.Slab.{get, Updates};
-ghost use Rattle.extent_table.specs.{declared.kept.Kept.TheVariants.{Same}, Kept.{kept_in, is_change, AreChanges}, Entries.{entry_of, standing_still, standing_at, once_kept, once_back, Goes}, Relaid.{AreRelaid}};
+ghost use Rattle.extent_table.specs.{declared.kept.Kept.TheVariants.{Same}, Kept.{kept_in, is_change, AreChanges}, Entries.{entry_of, standing_still, standing_at, once_kept, once_back, Goes}, Parts.{Notes}, Relaid.{AreRelaid}};
 
 use crate::Spot;
 use crate::kept::{Kept, is_change, kept_as, note, read};
@@ -32,6 +32,7 @@ pub(crate) fn hold(
     requires changed_room { standing.now.capacity ≤ vec_capacity changed.old }
     ensures changes { AreChanges kept.new.items changed.new.items }
     ensures change { IsTrue (is_change (kept_in kept.new.items key)) }
+    ensures noted { Notes changed.old.items changed.new.items key }
     ensures same { (k : ℕ) → entry_of (kept_in kept.new.items k) (get standing.now k)
         ≡ entry_of (kept_in kept.old.items k) (get standing.now k) }
     ensures short { length kept.new.items ≤ standing.now.capacity }

@@ -1,13 +1,12 @@
 use Rattle.std.proofs.Common.{IsSome, ap, subst, ◌∙◌, arith}
-use Rattle.slab.specs.Slab.{Slab}
 use Rattle.extent_table.specs.Kept.{kept_in}
-use Rattle.extent_table.specs.Entries.{Entry}
+use Rattle.extent_table.specs.Entries.{Shelf}
 use Rattle.extent_table.proofs.EntriesLemmas.{below, some_name}
 use Rattle.extent_table.proofs.SeenLemmas.{seen}
 use Rattle.extent_table.proofs.entry.entry_room.Goals as goal
 
 pub returns-clause-value : goal.returns-clause-value
-returns-clause-value c = c.capacity.ensures.value ∙ ap (λ (s : Slab Entry). s.capacity) c.entries.view_is
+returns-clause-value c = c.capacity.ensures.value ∙ ap (λ (s : Shelf). s.capacity) c.entries.view_is
 
 pub returns-clause-keys : goal.returns-clause-keys
 returns-clause-keys c = λ key there.

@@ -5,6 +5,7 @@ use Rattle.extent_table.specs.Parts.{at, name_of, now_of, spot_at, spot_or_zero,
 use Rattle.extent_table.proofs.SideLemmas.{len_of}
 use Rattle.extent_table.proofs.FoundLemmas.{Found, found_nth, some_key}
 use Rattle.extent_table.proofs.ChangeLemmas.{Replaced, replaced}
+use Rattle.extent_table.proofs.DigestLemmas.{agree_more}
 use Rattle.extent_table.proofs.TableLemmas.{nth_entry, table}
 use Rattle.extent_table.proofs.load.BulkLoad.relocate.Goals as goal
 use Rattle.extent_table.proofs.load.BulkLoad.relocate.Goals.{After-self, After-index-key, After-put_spot}
@@ -57,6 +58,7 @@ invariant_of-self c =
       room = rw c.put_spot.ensures.capacity c.self.invariant.room;
       digests = rw c.put_spot.ensures.capacity c.self.invariant.digests;
       kept_digests = rw c.put_spot.ensures.capacity c.self.invariant.kept_digests;
+      agree = agree_more c.self.invariant.agree c.put_spot.ensures.noted;
       volume = omega (arith, size, r.volume, c.self.invariant.volume);
       none_kept = c.self.invariant.none_kept;
       places_room = c.self.invariant.places_room;

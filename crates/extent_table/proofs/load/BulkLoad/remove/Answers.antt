@@ -7,6 +7,7 @@ use Rattle.extent_table.proofs.MapLemmas.{remove_none}
 use Rattle.extent_table.proofs.SideLemmas.{rising_names, get_in_gap}
 use Rattle.extent_table.proofs.FoundLemmas.{Found, found_key, some_key, get_found}
 use Rattle.extent_table.proofs.ChangeLemmas.{Removed, removed}
+use Rattle.extent_table.proofs.DigestLemmas.{agree_more}
 use Rattle.extent_table.proofs.TableLemmas.{table}
 use Rattle.extent_table.proofs.load.BulkLoad.remove.Goals as goal
 use Rattle.extent_table.proofs.load.BulkLoad.remove.Goals.{After-clear_spot}
@@ -39,6 +40,7 @@ invariant_of-self c =
       room = rw (c.clear_spot.ensures.capacity, c.remove.ensures.capacity) c.self.invariant.room;
       digests = rw c.clear_spot.ensures.capacity c.self.invariant.digests;
       kept_digests = rw c.clear_spot.ensures.capacity c.self.invariant.kept_digests;
+      agree = agree_more c.self.invariant.agree c.clear_spot.ensures.noted;
       volume = rw c.remove.ensures.items (omega (arith, before, r.volume, c.self.invariant.volume));
       none_kept = c.self.invariant.none_kept;
       places_room = c.self.invariant.places_room;

@@ -7,6 +7,7 @@ use Rattle.extent_table.proofs.EntryLemmas.{count_entries}
 use Rattle.extent_table.proofs.FoundLemmas.{Found, found_key, some_key, size_found, room_left, volume_at_most}
 use Rattle.extent_table.proofs.ChangeLemmas.{Replaced, Added, replaced, added}
 use Rattle.extent_table.proofs.LoadLemmas.{none_was_kept}
+use Rattle.extent_table.proofs.DigestLemmas.{agree_put}
 use Rattle.extent_table.proofs.TableLemmas.{table}
 use Rattle.extent_table.proofs.load.BulkLoad.set.Goals as goal
 use Rattle.extent_table.proofs.load.BulkLoad.set.Goals.{After-put_spot, In-Err, After-insert}
@@ -58,6 +59,7 @@ invariant_of-self c =
       room = rw c.put_spot.ensures.capacity c.self.invariant.room;
       digests = c.put_digest.ensures.list;
       kept_digests = rw c.put_spot.ensures.capacity c.self.invariant.kept_digests;
+      agree = agree_put c.self.invariant.agree c.put_spot.ensures.noted c.put_digest.ensures.others;
       volume = omega (arith, before at, r.volume, c.self.invariant.volume, size_found (found at));
       none_kept = c.self.invariant.none_kept;
       places_room = c.self.invariant.places_room;
@@ -150,6 +152,8 @@ invariant_of-self-in-Err c =
       };
       digests = c.put_digest-in-Err.ensures.list;
       kept_digests = rw c.new_entry-added.ensures.capacity c.self.invariant.kept_digests;
+      agree = agree_put c.self.invariant.agree c.new_entry-added.ensures.noted
+          c.put_digest-in-Err.ensures.others;
       volume = rw inserted (ap (λ n. n + c.args.spot.size) c.self.invariant.volume ∙ sym r.volume);
       none_kept = c.self.invariant.none_kept;
       places_room = c.self.invariant.places_room;

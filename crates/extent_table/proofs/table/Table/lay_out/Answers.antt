@@ -81,6 +81,7 @@ invariant_of-self c =
           (rw c.lay_out.ensures.capacity at c.carry_digests.ensures.list)
           copy c.copy_digests.ensures.capacity);
       kept_digests = c.carry_digests.ensures.list;
+      agree = record { same = λ k none. ap (λ xs. digest_in xs k) copy };
       volume = rw same (c.self.invariant.volume
           ∙ sym (volume_goes r now_of now_of c.self.invariant.sound.now (λ k. refl) some_of_now));
       kept_volume = c.self.invariant.volume

@@ -7,6 +7,7 @@ use Rattle.extent_table.specs.Parts.{at, name_of, now_of, spot_at, digest_in, di
 use Rattle.extent_table.proofs.ChangeLemmas.{renewed}
 use Rattle.extent_table.proofs.FoundLemmas.{Found, found_key, live_key}
 use Rattle.extent_table.proofs.SideLemmas.{get_in_gap, rising_names}
+use Rattle.extent_table.proofs.DigestLemmas.{agree_put}
 use Rattle.extent_table.proofs.TableLemmas.{table}
 use Rattle.extent_table.proofs.table.Table.renew.Goals as goal
 use Rattle.extent_table.proofs.table.Table.renew.Goals.{After-index-key}
@@ -37,9 +38,29 @@ found c =
     ≡ c.args.name.now)) c.unwrap-place.ensures c.search.ensures.found in
     found_key now_of c.deref.ensures.value within named c.index-key.ensures
 
+pub mark-requires : goal.mark-requires
+mark-requires c = live_key c.self.invariant.sound.now (found (goal.at.mark-requires c).After-index-key)
+
 pub put_digest-requires-clause-entry : goal.put_digest-requires-clause-entry
-put_digest-requires-clause-entry c = live_key c.self.invariant.sound.now
-    (found (goal.at.put_digest-requires-clause-entry c).After-index-key)
+put_digest-requires-clause-entry c = rw c.mark.ensures.slots (live_key c.self.invariant.sound.now
+    (found (goal.at.put_digest-requires-clause-entry c).After-index-key))
+
+pub put_digest-requires-clause-list : goal.put_digest-requires-clause-list
+put_digest-requires-clause-list c = rw c.mark.ensures.capacity c.self.invariant.digests
+
+pub invariant_of-self : goal.invariant_of-self
+invariant_of-self c = record {
+  cap = c.self.invariant.cap;
+  sound = rw c.mark.ensures.slots c.self.invariant.sound;
+  room = rw c.mark.ensures.capacity c.self.invariant.room;
+  digests = c.put_digest.ensures.list;
+  kept_digests = rw c.mark.ensures.capacity c.self.invariant.kept_digests;
+  agree = agree_put c.self.invariant.agree c.mark.ensures.noted c.put_digest.ensures.others;
+  volume = rw c.mark.ensures.slots c.self.invariant.volume;
+  kept_volume = rw c.mark.ensures.slots c.self.invariant.kept_volume;
+  places = rw c.mark.ensures.slots c.self.invariant.places;
+  places_room = c.self.invariant.places_room;
+}
 
 pub returns-clause-only : goal.returns-clause-only
 returns-clause-only c =
@@ -48,8 +69,10 @@ returns-clause-only c =
     c.put_digest.ensures.others
     ∙ ap (fin.insert (digests_of c.self.inside.digests.items c.self.inside.entries.slots
     c.self.inside.order.items) c.args.name.now) c.put_digest.ensures.here in
-    rw (← c.self.view_is) (λ i. record (extents_of c.self.inside) { digests = digests i })
+    rw (c.mark.ensures.slots, ← c.self.view_is) (λ i. record (extents_of c.self.inside) {
+      digests = digests i;
+    })
 
 pub returns-clause-table : goal.returns-clause-table
-returns-clause-table c = table c.self.invariant.sound c.self.invariant.room.limit c.self.invariant.cap
-    c.put_digest.ensures.list c.self.invariant.kept_digests
+returns-clause-table c = rw c.mark.ensures.slots (table c.self.invariant.sound c.self.invariant.room.limit
+    c.self.invariant.cap c.put_digest.ensures.list c.self.invariant.kept_digests)

@@ -1,0 +1,6 @@
+use Rattle.std.proofs.Common.{ap, ◌∙◌}
+use Rattle.extent_table.specs.Entries.{Shelf}
+use Rattle.extent_table.proofs.entry.changed_keys.Goals as goal
+
+pub returns-clause-value : goal.returns-clause-value
+returns-clause-value c = c.deref.ensures.value ∙ ap (λ (s : Shelf). s.changed) c.entries.view_is
