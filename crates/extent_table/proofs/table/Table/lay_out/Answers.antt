@@ -65,6 +65,7 @@ invariant_of-self c =
     record {
       cap = c.self.invariant.cap;
       sound = rw same (sound at.After-unwrap all);
+      same_order = λ _. same;
       room = record {
         limit = c.self.invariant.room.limit;
         entries = rw c.lay_out.ensures.capacity c.self.invariant.room.entries;

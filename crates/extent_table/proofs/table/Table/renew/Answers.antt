@@ -52,6 +52,7 @@ pub invariant_of-self : goal.invariant_of-self
 invariant_of-self c = record {
   cap = c.self.invariant.cap;
   sound = rw c.mark.ensures.slots c.self.invariant.sound;
+  same_order = c.self.invariant.same_order;
   room = rw c.mark.ensures.capacity c.self.invariant.room;
   digests = c.put_digest.ensures.list;
   kept_digests = rw c.mark.ensures.capacity c.self.invariant.kept_digests;
