@@ -6,9 +6,9 @@ use Rattle.std.proofs.lemmas.List.Sums.{sum_by-cons}
 use Rattle.extent_table.specs.declared.spot.Spot.{Spot}
 use Rattle.extent_table.specs.declared.kept.Kept.{Kept}
 use Rattle.extent_table.specs.declared.kept.Kept.TheVariants.{Same, New, Old}
-use Rattle.extent_table.specs.Kept.{kept_in, kept_spot, is_change}
+use Rattle.extent_table.specs.Kept.{kept_in, kept_spot, is_change, AreChanges}
 use Rattle.extent_table.specs.Entries.{Entry, Standing, entry_of, entries_of, once_kept, once_back, if_stands, Goes}
-use Rattle.extent_table.specs.Parts.{name_of, now_of, kept_of, Edit, with_kept, with_now, after_keep, after_back}
+use Rattle.extent_table.specs.Parts.{name_of, now_of, kept_of, Lists, Edit, with_kept, with_now, after_keep, after_back}
 
 -- the entry at a key
 pub entry_at : (ss : List (Option Standing)) (kept : List Kept) (k : ℕ)
@@ -162,6 +162,21 @@ pub kept_of_old : (spot : Spot) (s : Option Standing) → IsSome (entry_of (Old 
     → kept_of (entry_of (Old spot) s) ≡ Some spot
 kept_of_old spot None h = absurd (cc)
 kept_of_old spot (Some s) h = refl
+
+-- a key that isn't listed among those that changed
+not_listed : (x : Kept) → (is_change x ≡ true → ⊥) → x ≡ Same
+not_listed Same none = refl
+not_listed New none = absurd (none refl)
+not_listed (Old s) none = absurd (none refl)
+
+pub unlisted_kept : (ss : List (Option Standing)) {kept : List Kept} {changed : List ℕ}
+    → AreChanges kept changed → (k : ℕ) → (Lists changed k → ⊥)
+    → kept_of (get_or (entries_of ss kept) k None) ≡ now_of (get_or (entries_of ss kept) k None)
+unlisted_kept ss {kept} h k none =
+    let there = entry_at ss kept k in
+    ap kept_of there ∙ kept_of_same (kept_in kept k) (get_or ss k None)
+    (not_listed (kept_in kept k) (λ change. none (h.whole k change)))
+    ∙ sym (ap now_of there)
 
 -- an entry that changed keeps what was kept of it
 kept_stays : (x : Kept) (a b : Option Spot) → is_change x ≡ true → kept_spot x a ≡ kept_spot x b
