@@ -1,6 +1,6 @@
 -- What changed, applied to the records before, gives those of now. These laws stand here, and not in proofs, since
 -- what an impl says of its ghost members may name specs alone.
-use Rattle.std.specs.Prelude.{◌≡◌, ℕ, zero, suc, ◌<◌, ◌==◌, Bool, true, false, cond, not, ◌&&◌, T, List, [], ◌∷◌, ◌++◌, map, length, slice_get, Option, Some, None, is_some, IsSome, option_map, refl, bytes_eq}
+use Rattle.std.specs.Prelude.{◌≡◌, ℕ, zero, suc, ◌==◌, Bool, true, false, cond, not, ◌&&◌, T, List, [], ◌∷◌, map, slice_get, Option, Some, None, is_some, option_map, refl, bytes_eq}
 use Rattle.std.proofs.Common.{ap, sym, subst, ◌∙◌, arith}
 use Rattle.std.proofs.lemmas.Bool.{eqb-true}
 use Rattle.std.proofs.lemmas.Cmp.{nat_list_cmp_total, tied_itself}
@@ -10,18 +10,18 @@ use Rattle.std.specs.List.{list_any}
 use Rattle.std.specs.Ordering.{eq_by_cmp, is_eq, is_lt}
 use Rattle.std.specs.FinMap as fin
 use Rattle.std.specs.FinMap.Entries.{below_all}
-use Rattle.slot_codec.specs.Changes.{Change, moves_of, gone_of, puts_of}
+use Rattle.slot_codec.specs.Changes.{moves_of, gone_of, puts_of}
 use Rattle.slot_codec.specs.Changes.Change.{same, put}
 use Rattle.slot_codec.specs.Items.{AreItems, after_items}
-use Rattle.slot_codec.specs.Names.{IsName, is_name, name_cmp}
+use Rattle.slot_codec.specs.Names.{is_name, name_cmp}
 use Rattle.slot_codec.specs.Readable.{IsDigest, IsRecord}
 use Rattle.slot_codec.specs.Rolls.{IsRoll}
-use Rattle.slot_codec.specs.Rows.{AreChanges, IsPut, Rows, by_name, changed_rows, moved_row, rows_of, with_row}
+use Rattle.slot_codec.specs.Rows.{IsPut, Rows, by_name, changed_rows, moved_row, rows_of, with_row}
 use Rattle.slot_codec.specs.declared.codec.Record.{Record}
 use Rattle.slot_codec.proofs.OrderLemmas.{not_tied_back}
 use Rattle.extent_table.specs.Rising.{below_each}
 use Rattle.extent_table.specs.Counted.{gone_are, moves_are, puts_are}
-use Rattle.extent_table.specs.Changed.{AreRows, AreSorted, all_gone, all_moved, all_moves, first_below, gone_from, is_move, left_of, less_of, moved_by, moved_in, moves_from, none_now, one_gone, rest_sorted, same_name, first_part, later_part, tie_of}
+use Rattle.extent_table.specs.Changed.{AreRows, AreSorted, all_moved, first_below, gone_from, is_move, left_of, less_of, moved_by, moved_in, moves_from, none_now, one_gone, rest_sorted, same_name, first_part, later_part, tie_of}
 use Rattle.extent_table.specs.Deltas.{changes_between, is_same_object, new_change, new_changes}
 
 pub true_of : (b : Bool) → T b → b ≡ true

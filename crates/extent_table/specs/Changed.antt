@@ -12,7 +12,7 @@ use Rattle.std.specs.FinMap.Entries.{below_all}
 use Rattle.std.specs.declared.cmp.Ordering.{Ordering}
 use Rattle.std.specs.declared.cmp.Ordering.TheVariants.{Less, Equal, Greater}
 use Rattle.slot_codec.specs.Changes.{Change, moves_of, gone_of}
-use Rattle.slot_codec.specs.Changes.Change.{same, moved, gone, put}
+use Rattle.slot_codec.specs.Changes.Change.{same, moved}
 use Rattle.slot_codec.specs.Items.{AreItems, after_items}
 use Rattle.slot_codec.specs.Names.{IsName, is_name, name_cmp}
 use Rattle.slot_codec.specs.Rows.{IsGone, IsMove, Rows, by_name, moved_row, with_place}

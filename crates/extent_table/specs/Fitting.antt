@@ -1,25 +1,24 @@
 -- What changed in a table is what an entry of a log can say. These laws stand here, and not in proofs, since what an
 -- impl says of its ghost members may name specs alone.
-use Rattle.std.specs.Prelude.{◌≡◌, ℕ, zero, suc, ◌^◌, ◌<◌, ◌==◌, nat_lt, Bool, true, false, cond, not, ◌&&◌, T, List, [], ◌∷◌, ◌++◌, map, length, slice_get, Option, Some, None, is_some, IsSome, option_map, refl, bytes_eq}
-use Rattle.std.proofs.Common.{ap, sym, subst, ◌∙◌, arith}
+use Rattle.std.specs.Prelude.{◌≡◌, ℕ, zero, suc, ◌^◌, ◌<◌, Bool, true, false, cond, not, ◌&&◌, List, [], ◌∷◌, slice_get, Some, is_some, IsSome, option_map, refl}
+use Rattle.std.proofs.Common.{ap, sym, subst, ◌∙◌}
 use Rattle.std.proofs.lemmas.Bool.{eq-eqb, ltb-true}
 use Rattle.std.proofs.lemmas.Option.{same_Some}
 use Rattle.std.proofs.lemmas.Slice.Eq.{bytes_eq-Decides}
 use Rattle.std.specs.List.{list_all}
 use Rattle.std.specs.FinMap as fin
-use Rattle.slot_codec.specs.Changes.{AreFew, Change, moves_of, gone_of, puts_of}
+use Rattle.slot_codec.specs.Changes.{AreFew, moves_of, gone_of, puts_of}
 use Rattle.slot_codec.specs.Changes.Change.{same, moved, put}
-use Rattle.slot_codec.specs.Names.{name_cmp}
 use Rattle.slot_codec.specs.Reading.{is_in_range}
 use Rattle.slot_codec.specs.Readable.{IsDigest, IsRecord}
 use Rattle.slot_codec.specs.Rolls.{HaveDigests, IsRoll}
-use Rattle.slot_codec.specs.Rows.{AreChanges, Rows, by_name, changed_rows, rows_of}
+use Rattle.slot_codec.specs.Rows.{AreChanges, Rows, changed_rows, rows_of}
 use Rattle.slot_codec.specs.declared.codec.Record.{Record}
 use Rattle.extent_table.specs.Extents.{Extents, rolled}
 use Rattle.extent_table.specs.Rising.{rolled-digested, rolled-rise}
 use Rattle.extent_table.specs.Counted.{changes_between-few, gone_are, moves_are, puts_are}
-use Rattle.extent_table.specs.Changed.{AreSorted, all_gone, all_moves, is_move, moved_in, not_gone}
-use Rattle.extent_table.specs.Applied.{all_puts, by_newness, changes_between-applied, found_at, found_here, is_new, moved_at, moved_rows, row_at, rows_are, sorted_of, true_of}
+use Rattle.extent_table.specs.Changed.{all_gone, all_moves, is_move, moved_in, not_gone}
+use Rattle.extent_table.specs.Applied.{all_puts, by_newness, changes_between-applied, found_at, found_here, is_new, moved_at, moved_rows, row_at, rows_are, sorted_of}
 use Rattle.extent_table.specs.Deltas.{changes_between, changes_of, is_fit, is_same_object, kept_change, kept_changes, kept_rolled, new_changes, now_rolled}
 
 -- the three lists of the changes between two lists of records, by their parts
