@@ -49,7 +49,8 @@ module _ (spots : Spots) (digests : Digests)
       → fin.get (rows_of (rolled spots digests)) q ≡ option_map (row_in digests q) (fin.get spots q)
   rolled-row q =
       row_at (rolled spots digests) q
-      ∙ ap (λ rs. fin.find name_cmp q (map by_name (map (with_digest digests) rs))) (records_of-all spots named)
+      ∙ ap (λ rs. fin.find name_cmp q (map by_name (map (with_digest digests) rs)))
+      (records_of-all spots named)
       ∙ find_rolled digests (fin.entries spots) q
       ∙ ap (option_map (row_in digests q)) (sym (fin.get-entries spots q))
 
@@ -79,7 +80,8 @@ nth_kept now rank (x ∷ rs) (suc n) r is =
     one_more : suc rank + n ≡ rank + suc n
     one_more = omega arith
 
-kept_changes-count : (now : Rows) (rank : ℕ) (rs : List Record) → length (kept_changes now rank rs) ≡ length rs
+kept_changes-count : (now : Rows) (rank : ℕ) (rs : List Record)
+    → length (kept_changes now rank rs) ≡ length rs
 kept_changes-count now rank [] = refl
 kept_changes-count now rank (r ∷ rs) = ap suc (kept_changes-count now (suc rank) rs)
 
@@ -93,8 +95,8 @@ module _ (e : Extents) (table : IsTable e) where
       let none_before : 0 + n ≡ n = omega arith in
       nth_kept (rows_of (now_rolled e)) zero (rolled e.kept e.kept_digests) n (row_in e.kept_digests name was)
       (rolled-rank e.kept e.kept_digests table.kept_named n (name, was) is)
-      ∙ ap (λ k. Some (kept_change k (row_in e.kept_digests name was) (fin.get (rows_of (now_rolled e)) name)))
-      none_before
+      ∙ ap (λ k. Some (kept_change k (row_in e.kept_digests name was)
+      (fin.get (rows_of (now_rolled e)) name))) none_before
       ∙ ap (λ o. Some (kept_change n (row_in e.kept_digests name was) o))
       (rolled-row e.now e.digests table.now_named name)
 
@@ -104,7 +106,8 @@ module _ (e : Extents) (table : IsTable e) where
       ≡ Some (new_change (option_map (row_in e.kept_digests name) (fin.get e.kept name))
       (row_in e.digests name is))
   new_rank n name is at =
-      slice_get-map (λ s. new_change (fin.get (rows_of (rolled e.kept e.kept_digests)) s.name) s) (now_rolled e) n
+      slice_get-map (λ s. new_change (fin.get (rows_of (rolled e.kept e.kept_digests)) s.name) s)
+      (now_rolled e) n
       ∙ ap (option_map (λ s. new_change (fin.get (rows_of (rolled e.kept e.kept_digests)) s.name) s))
       (rolled-rank e.now e.digests table.now_named n (name, is) at)
       ∙ ap (λ o. Some (new_change o (row_in e.digests name is)))
@@ -145,7 +148,8 @@ module _ (e : Extents) (table : IsTable e) where
   new_part = new_changes (rows_of (rolled e.kept e.kept_digests)) (now_rolled e)
 
   changes_are : changes_of e ≡ kept_part ++ new_part
-  changes_are = ap (λ rs. kept_changes (rows_of (now_rolled e)) zero rs ++ new_changes (rows_of rs) (now_rolled e))
+  changes_are = ap (λ rs. kept_changes (rows_of (now_rolled e)) zero rs
+      ++ new_changes (rows_of rs) (now_rolled e))
       (kept_rolled-is e table)
 
   kept_count : length kept_part ≡ fin.len e.kept

@@ -71,7 +71,8 @@ module _ (t : Inside) (h : IsWellKept t) where
       ∙ digest_stays (digest_in t.digests.items key) (h.digests.long key))
 
   -- the key of a kept rank
-  module _ {n key : ℕ} (within : n < length t.kept_order.items) (read : key ≡ get_or t.kept_order.items n key) where
+  module _ {n key : ℕ} (within : n < length t.kept_order.items)
+      (read : key ≡ get_or t.kept_order.items n key) where
     abbrev kept_there : Found kept_of slots t.kept_order.items (name_of (at slots key)) key
     kept_there = found_nth kept_of slots within read
 
@@ -176,6 +177,6 @@ module _ (t : Inside) (h : IsWellKept t) where
         → slice_get (rolled (extents_of t).now (extents_of t).digests) n
         ≡ Some (row_at_key (name_of (at slots key)) is t.digests.items key)
     told_row is now =
-        rolled-rank (extents_of t).now (extents_of t).digests is_table.now_named n (name_of (at slots key), is)
-        (now_entry is now)
+        rolled-rank (extents_of t).now (extents_of t).digests is_table.now_named n
+        (name_of (at slots key), is) (now_entry is now)
         ∙ ap Some (now_row (name_of (at slots key)) key is now_there)

@@ -1,5 +1,5 @@
--- What changed, applied to the records before, gives those of now. These laws stand here, and not in proofs, since
--- what an impl says of its ghost members may name specs alone.
+-- What changed, applied to the records before, gives those of now. These laws stand here, and not in proofs,
+-- since what an impl says of its ghost members may name specs alone.
 use Rattle.std.specs.Prelude.{◌≡◌, ℕ, zero, suc, ◌==◌, Bool, true, false, cond, not, ◌&&◌, T, List, [], ◌∷◌, map, slice_get, Option, Some, None, is_some, option_map, refl, bytes_eq}
 use Rattle.std.proofs.Common.{ap, sym, subst, ◌∙◌, arith}
 use Rattle.std.proofs.lemmas.Bool.{eqb-true}
@@ -69,7 +69,9 @@ module _ (before : Rows) where
       later = fin.find name_cmp q (map by_name rs)
 
       alone : eq_by_cmp name_cmp q s.name ≡ true → later ≡ None
-      alone is = ap (λ n. fin.find name_cmp n (map by_name rs)) (same_name q s.name (tie_of (name_cmp q s.name) is))
+      alone is =
+          ap (λ n. fin.find name_cmp n (map by_name rs))
+          (same_name q s.name (tie_of (name_cmp q s.name) is))
           ∙ nowhere s.name rs (first_below s rs sorted)
 
       by_tie : (b t : Bool) → is_new (fin.get before s.name) s ≡ b → eq_by_cmp name_cmp q s.name ≡ t
@@ -82,7 +84,8 @@ module _ (before : Rows) where
       by_tie true false new is = refl
       by_tie false false new is = refl
 
-      by_test : ((rows : Rows) (q : List ℕ) → AreSorted rs → fin.get (after_items with_row rows (puts_from rs)) q
+      by_test : ((rows : Rows) (q : List ℕ) → AreSorted rs
+          → fin.get (after_items with_row rows (puts_from rs)) q
           ≡ put_over (fin.find name_cmp q (map by_name rs)) (fin.get rows q))
           → (b : Bool) → is_new (fin.get before s.name) s ≡ b
           → fin.get (after_items with_row rows (puts_of (cond b (put s) same ∷ new_changes before rs))) q
@@ -166,8 +169,9 @@ pub found_at : (rs : List Record) (q : List ℕ) (s : Record) → fin.find name_
 found_at [] q s is = absurd (cc)
 found_at (r ∷ rs) q s is = by_tie (found_at rs q s) (eq_by_cmp name_cmp q r.name) is
   where
-    by_tie : (fin.find name_cmp q (map by_name rs) ≡ Some s → (i : ℕ) × (slice_get rs i ≡ Some s)) → (b : Bool)
-        → cond b (Some r) (fin.find name_cmp q (map by_name rs)) ≡ Some s → (i : ℕ) × (slice_get (r ∷ rs) i ≡ Some s)
+    by_tie : (fin.find name_cmp q (map by_name rs) ≡ Some s → (i : ℕ) × (slice_get rs i ≡ Some s))
+        → (b : Bool) → cond b (Some r) (fin.find name_cmp q (map by_name rs)) ≡ Some s
+        → (i : ℕ) × (slice_get (r ∷ rs) i ≡ Some s)
     by_tie rest true is = (0, is)
     by_tie rest false is = let p = rest is in (suc p.0, p.1)
 
@@ -267,14 +271,17 @@ module _ (before now : List Record) (was : IsRoll before) (is : IsRoll now) wher
     by_now : (o : Option Record) → fin.find name_cmp q (map by_name now) ≡ o
         → (p : Option Record) → fin.find name_cmp q (map by_name before) ≡ p
         → put_over (rows_of before) o (cond (any_gone q) None (option_map (moved_in (rows_of now)) p)) ≡ o
-    by_now None new None old = elim (any_gone q) as (λ b. cond {A = Option Record} b None None ≡ None) [ true ↦ refl | false ↦ refl ]
+    by_now None new None old =
+        elim (any_gone q) as (λ b. cond {A = Option Record} b None None ≡ None)
+        [ true ↦ refl | false ↦ refl ]
     by_now None new (Some r) old =
         ap (λ b. cond b None (Some (moved_in (rows_of now) r)))
         (one_gone (rows_of now) 0 before q (ap is_some old) (row_at now q ∙ new))
     by_now (Some s) new p old =
         let named = found_name now q s new in
         let stays : any_gone q ≡ false = not_true (any_gone q) (λ gone.
-        no_longer_some (fin.get (rows_of now) q) s (row_at now q ∙ new) (none_now (rows_of now) 0 before q gone))
+        no_longer_some (fin.get (rows_of now) q) s (row_at now q ∙ new)
+        (none_now (rows_of now) 0 before q gone))
         in
         ap (λ o. cond (is_new o s) (Some s) (cond (any_gone q) None (option_map (moved_in (rows_of now)) p)))
         (ap (fin.get (rows_of before)) named ∙ row_at before q ∙ old)

@@ -1,5 +1,5 @@
--- What the moves and the names that are gone do to rows. These laws stand here, and not in proofs, since what an impl
--- says of its ghost members may name specs alone.
+-- What the moves and the names that are gone do to rows. These laws stand here, and not in proofs, since what
+-- an impl says of its ghost members may name specs alone.
 use Rattle.std.specs.Prelude.{◌≡◌, ℕ, suc, ◌^◌, ◌<◌, ◌==◌, Bool, true, false, cond, not, ◌&&◌, ◌||◌, T, List, [], ◌∷◌, ◌++◌, map, length, slice_get, Option, Some, None, is_some, IsSome, option_map, refl}
 use Rattle.std.proofs.Common.{ap, sym, subst, ◌∙◌, arith}
 use Rattle.std.proofs.lemmas.Cmp.{nat_list_cmp_total, tied_itself}
@@ -102,8 +102,8 @@ moved_by r (Some s) = cond (is_move r s) (record r { place = s.place }) r
 abbrev pub moved_in : Rows → Record → Record
 moved_in now r = moved_by r (fin.get now r.name)
 
-module _ (rows : Rows) (done : List Record) (r : Record) (rs : List Record) (are : AreRows rows (done ++ r ∷ rs))
-    (place : ℕ) where
+module _ (rows : Rows) (done : List Record) (r : Record) (rs : List Record)
+    (are : AreRows rows (done ++ r ∷ rs)) (place : ℕ) where
   the_record : slice_get (fin.values rows) (length done) ≡ Some r
   the_record = ap (λ es. slice_get (map (λ (e : List ℕ × Record). e.1) es) (length done)) are
       ∙ ap (λ xs. slice_get xs (length done)) (second_of (done ++ r ∷ rs)) ∙ nth_here done r rs
@@ -155,7 +155,8 @@ module _ (now : Rows) where
       by_its_name rest (Some s) = elim (is_move r s) as (λ b. AreRows (after_items moved_row rows
           (moves_of (cond b (moved (length done) s.place) same ∷ kept_changes now (suc (length done)) rs)))
           (done ++ cond b (record r { place = s.place }) r ∷ map (moved_in now) rs)) [
-            | true ↦ one_on rs rest (moved_row rows (length done, s.place)) done (record r { place = s.place })
+            | true ↦ one_on rs rest (moved_row rows (length done, s.place)) done
+                (record r { place = s.place })
                 (one_moved rows done r rs are s.place)
             | false ↦ one_on rs rest rows done r are
           ]
@@ -209,23 +210,24 @@ module _ (now : Rows) where
     where
       by_tie : fin.get now r.name ≡ None → (b : Bool) → eq_by_cmp name_cmp q r.name ≡ b
           → (b ≡ false → fin.get now q ≡ None) → fin.get now q ≡ None
-      by_tie none true is rest = sym (fin.get_tied nat_list_cmp_total now q r.name (tie_of (name_cmp q r.name) is))
-          ∙ none
+      by_tie none true is rest =
+          sym (fin.get_tied nat_list_cmp_total now q r.name (tie_of (name_cmp q r.name) is)) ∙ none
       by_tie none false is rest = rest refl
 
       by_its_name : (list_any (eq_by_cmp name_cmp q) (gone_from (suc rank) rs) ≡ true → fin.get now q ≡ None)
           → (o : Option Record) → fin.get now r.name ≡ o
           → list_any (eq_by_cmp name_cmp q) (gone_of (kept_change rank r o ∷ kept_changes now (suc rank) rs))
           ≡ true → fin.get now q ≡ None
-      by_its_name rest None is any = by_tie is (eq_by_cmp name_cmp q r.name) refl (λ apart. rest (by_rest apart))
+      by_its_name rest None is any =
+          by_tie is (eq_by_cmp name_cmp q r.name) refl (λ apart. rest (by_rest apart))
         where
           by_rest : eq_by_cmp name_cmp q r.name ≡ false
               → list_any (eq_by_cmp name_cmp q) (gone_from (suc rank) rs) ≡ true
           by_rest apart = ap (λ b. b || list_any (eq_by_cmp name_cmp q) (gone_from (suc rank) rs)) (sym apart)
               ∙ any
       by_its_name rest (Some s) is any =
-          rest (ap (list_any (eq_by_cmp name_cmp q)) (sym (not_gone rank r s (kept_changes now (suc rank) rs)))
-          ∙ any)
+          rest (ap (list_any (eq_by_cmp name_cmp q))
+          (sym (not_gone rank r s (kept_changes now (suc rank) rs))) ∙ any)
 
   -- a record whose name has none now is gone
   pub one_gone : (rank : ℕ) (rs : List Record) (q : List ℕ) → IsSome (fin.find name_cmp q (map by_name rs))
@@ -252,7 +254,8 @@ module _ (now : Rows) where
 
       by_tie : (IsSome (fin.find name_cmp q (map by_name rs)) → fin.get now q ≡ None → any_later ≡ true)
           → (b : Bool) → eq_by_cmp name_cmp q r.name ≡ b
-          → IsSome (cond b (Some r) (fin.find name_cmp q (map by_name rs))) → any_from (fin.get now r.name) ≡ true
+          → IsSome (cond b (Some r) (fin.find name_cmp q (map by_name rs)))
+          → any_from (fin.get now r.name) ≡ true
       by_tie rest true is some =
           ap any_from (fin.get_tied nat_list_cmp_total now q r.name (tie_of (name_cmp q r.name) is) ∙ none)
           ∙ ap (λ b. b || any_later) is
@@ -269,7 +272,8 @@ module _ (now : Rows) where
       rises : AreSorted rs
       rises = rest_sorted r rs sorted
 
-      stays : (i : ℕ) (s : Record) → slice_get rs i ≡ Some s → IsSome (fin.get (fin.remove rows r.name) s.name)
+      stays : (i : ℕ) (s : Record) → slice_get rs i ≡ Some s
+          → IsSome (fin.get (fin.remove rows r.name) s.name)
       stays i s is =
           let less : is_lt (name_cmp r.name s.name) ≡ true =
           below_each name_cmp is_name r.name (map by_name rs) i (by_name s) (first_below r rs sorted)
@@ -294,7 +298,8 @@ module _ (now : Rows) where
           (rest rows rises (λ i s is. named (suc i) s is) (λ i s is. there (suc i) s is))
 
 -- what is left once names are gone
-pub left_of : (names : List (List ℕ)) (rows : Rows) (q : List ℕ) → fin.get (after_items fin.remove rows names) q
+pub left_of : (names : List (List ℕ)) (rows : Rows) (q : List ℕ)
+    → fin.get (after_items fin.remove rows names) q
     ≡ cond (list_any (eq_by_cmp name_cmp q) names) None (fin.get rows q)
 left_of [] rows q = refl
 left_of (n ∷ names) rows q =

@@ -1,5 +1,5 @@
--- How many changes of each kind there are, and which of the two parts tells them. These laws stand here, and not in
--- proofs, since what an impl says of its ghost members may name specs alone.
+-- How many changes of each kind there are, and which of the two parts tells them. These laws stand here, and
+-- not in proofs, since what an impl says of its ghost members may name specs alone.
 use Rattle.std.specs.Prelude.{◌≡◌, ◌⊎◌, ℕ, zero, suc, ◌≤◌, ◌==◌, true, false, cond, not, ◌&&◌, List, [], ◌∷◌, ◌++◌, length, Option, Some, None, refl}
 use Rattle.std.proofs.Common.{ap, ◌∙◌, inl, inr, arith}
 use mathlib.Core.Logic.{⊎_elim}
@@ -17,7 +17,8 @@ moves_first : (now : Rows) (rank : ℕ) (rs : List Record) (more : List Change) 
     → moves_of (kept_changes now rank rs ++ more) ≡ moves_of (kept_changes now rank rs)
 moves_first now rank [] more none = none
 moves_first now rank (r ∷ rs) more none =
-    elim (kept_change rank r (fin.get now r.name)) as (λ c. moves_of (c ∷ kept_changes now (suc rank) rs ++ more)
+    elim (kept_change rank r (fin.get now r.name)) as
+    (λ c. moves_of (c ∷ kept_changes now (suc rank) rs ++ more)
     ≡ moves_of (c ∷ kept_changes now (suc rank) rs)) [
       | same ↦ moves_first now (suc rank) rs more none
       | moved n place ↦ ap (λ xs. (n, place) ∷ xs) (moves_first now (suc rank) rs more none)
@@ -29,7 +30,8 @@ gone_first : (now : Rows) (rank : ℕ) (rs : List Record) (more : List Change) �
     → gone_of (kept_changes now rank rs ++ more) ≡ gone_of (kept_changes now rank rs)
 gone_first now rank [] more none = none
 gone_first now rank (r ∷ rs) more none =
-    elim (kept_change rank r (fin.get now r.name)) as (λ c. gone_of (c ∷ kept_changes now (suc rank) rs ++ more)
+    elim (kept_change rank r (fin.get now r.name)) as
+    (λ c. gone_of (c ∷ kept_changes now (suc rank) rs ++ more)
     ≡ gone_of (c ∷ kept_changes now (suc rank) rs)) [
       | same ↦ gone_first now (suc rank) rs more none
       | moved n place ↦ gone_first now (suc rank) rs more none
@@ -55,7 +57,8 @@ module _ (before : Rows) where
   of_new : (o : Option Record) (s : Record) → (new_change o s ≡ put s) ⊎ (new_change o s ≡ same)
   of_new None s = inl refl
   of_new (Some r) s = elim (is_same_object r s) as
-      (λ b. (cond b same (put s) ≡ put s) ⊎ (cond b same (put s) ≡ same)) [ true ↦ inr refl | false ↦ inl refl ]
+      (λ b. (cond b same (put s) ≡ put s) ⊎ (cond b same (put s) ≡ same))
+      [ true ↦ inr refl | false ↦ inl refl ]
 
   no_moves : (rs : List Record) → moves_of (new_changes before rs) ≡ []
   no_moves [] = refl
@@ -81,24 +84,26 @@ module _ (before : Rows) where
       (λ is. rw is (omega (arith, few_puts rs)))
       (of_new (fin.get before s.name) s)
 
-few_moves : (now : Rows) (rank : ℕ) (rs : List Record) → length (moves_of (kept_changes now rank rs)) ≤ length rs
+few_moves : (now : Rows) (rank : ℕ) (rs : List Record)
+    → length (moves_of (kept_changes now rank rs)) ≤ length rs
 few_moves now rank [] = omega arith
 few_moves now rank (r ∷ rs) =
     let rest = few_moves now (suc rank) rs in
-    elim (kept_change rank r (fin.get now r.name)) as (λ c. length (moves_of (c ∷ kept_changes now (suc rank) rs))
-    ≤ suc (length rs)) [
+    elim (kept_change rank r (fin.get now r.name)) as
+    (λ c. length (moves_of (c ∷ kept_changes now (suc rank) rs)) ≤ suc (length rs)) [
       | same ↦ omega (arith, rest)
       | moved n place ↦ omega (arith, rest)
       | gone name ↦ omega (arith, rest)
       | put s ↦ omega (arith, rest)
     ]
 
-few_gone : (now : Rows) (rank : ℕ) (rs : List Record) → length (gone_of (kept_changes now rank rs)) ≤ length rs
+few_gone : (now : Rows) (rank : ℕ) (rs : List Record)
+    → length (gone_of (kept_changes now rank rs)) ≤ length rs
 few_gone now rank [] = omega arith
 few_gone now rank (r ∷ rs) =
     let rest = few_gone now (suc rank) rs in
-    elim (kept_change rank r (fin.get now r.name)) as (λ c. length (gone_of (c ∷ kept_changes now (suc rank) rs))
-    ≤ suc (length rs)) [
+    elim (kept_change rank r (fin.get now r.name)) as
+    (λ c. length (gone_of (c ∷ kept_changes now (suc rank) rs)) ≤ suc (length rs)) [
       | same ↦ omega (arith, rest)
       | moved n place ↦ omega (arith, rest)
       | gone name ↦ omega (arith, rest)

@@ -1,5 +1,5 @@
--- What changed in a table since its last checkpoint, as an entry of a log has it: what became of each record that
--- was kept, by name, and then of each record of now whether it is put.
+-- What changed in a table since its last checkpoint, as an entry of a log has it: what became of each record
+-- that was kept, by name, and then of each record of now whether it is put.
 use Rattle.std.specs.Prelude.{ℕ, zero, suc, ◌==◌, ◌&&◌, not, if◌then◌else◌, Bool, List, [], ◌∷◌, ◌++◌, map, Option, Some, None, bytes_eq}
 use Rattle.std.specs.List.{list_all}
 use Rattle.std.specs.FinMap as fin
@@ -14,8 +14,8 @@ use Rattle.extent_table.specs.Extents.{Extents, rolled}
 abbrev pub is_same_object : Record → Record → Bool
 is_same_object a b = a.size == b.size && bytes_eq a.digest b.digest
 
--- What became of a record of this rank, by that of its name now, if there is one: it is gone, or its object stands
--- elsewhere. Another object of its name is put.
+-- What became of a record of this rank, by that of its name now, if there is one: it is gone, or its object
+-- stands elsewhere. Another object of its name is put, which isn't told here.
 abbrev pub kept_change : ℕ → Record → Option Record → Change
 kept_change rank r None = gone r.name
 kept_change rank r (Some s) =

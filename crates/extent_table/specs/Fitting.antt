@@ -1,5 +1,5 @@
--- What changed in a table is what an entry of a log can say. These laws stand here, and not in proofs, since what an
--- impl says of its ghost members may name specs alone.
+-- What changed in a table is what an entry of a log can say. These laws stand here, and not in proofs, since
+-- what an impl says of its ghost members may name specs alone.
 use Rattle.std.specs.Prelude.{◌≡◌, ℕ, zero, suc, ◌^◌, ◌<◌, Bool, true, false, cond, not, ◌&&◌, List, [], ◌∷◌, slice_get, Some, is_some, IsSome, option_map, refl}
 use Rattle.std.proofs.Common.{ap, sym, subst, ◌∙◌}
 use Rattle.std.proofs.lemmas.Bool.{eq-eqb, ltb-true}
@@ -25,8 +25,8 @@ use Rattle.extent_table.specs.Deltas.{changes_between, changes_of, is_fit, is_sa
 by_parts : (before now : List Record)
     → AreChanges (rows_of before) (moves_of (kept_changes (rows_of now) zero before))
     (gone_of (kept_changes (rows_of now) zero before)) (puts_of (new_changes (rows_of before) now))
-    → AreChanges (rows_of before) (moves_of (changes_between before now)) (gone_of (changes_between before now))
-    (puts_of (changes_between before now))
+    → AreChanges (rows_of before) (moves_of (changes_between before now))
+    (gone_of (changes_between before now)) (puts_of (changes_between before now))
 by_parts before now h =
     subst (λ (t : List (ℕ × ℕ) × (List (List ℕ) × List Record)). AreChanges (rows_of before) t.0 t.1.0 t.1.1)
     (λ i. (sym (moves_are before now) i, (sym (gone_are before now) i, sym (puts_are before now) i))) h
@@ -95,14 +95,16 @@ stays r = ap (λ b. is_same_object r r && not b) (eq-eqb r.place r.place refl) �
 abbrev AreIn : Rows → List Record → Type 0
 AreIn rows rs = (i : ℕ) (r : Record) → slice_get rs i ≡ Some r → fin.get rows r.name ≡ Some r
 
-no_moves_of : (now : Rows) (rank : ℕ) (rs : List Record) → AreIn now rs → moves_of (kept_changes now rank rs) ≡ []
+no_moves_of : (now : Rows) (rank : ℕ) (rs : List Record) → AreIn now rs
+    → moves_of (kept_changes now rank rs) ≡ []
 no_moves_of now rank [] there = refl
 no_moves_of now rank (r ∷ rs) there =
     ap (λ o. moves_of (kept_change rank r o ∷ kept_changes now (suc rank) rs)) (there 0 r refl)
     ∙ ap (λ b. moves_of (cond b (moved rank r.place) same ∷ kept_changes now (suc rank) rs)) (stays r)
     ∙ no_moves_of now (suc rank) rs (λ i s at. there (suc i) s at)
 
-none_gone_of : (now : Rows) (rank : ℕ) (rs : List Record) → AreIn now rs → gone_of (kept_changes now rank rs) ≡ []
+none_gone_of : (now : Rows) (rank : ℕ) (rs : List Record) → AreIn now rs
+    → gone_of (kept_changes now rank rs) ≡ []
 none_gone_of now rank [] there = refl
 none_gone_of now rank (r ∷ rs) there =
     ap (λ o. gone_of (kept_change rank r o ∷ kept_changes now (suc rank) rs)) (there 0 r refl)
@@ -154,7 +156,8 @@ changes_of-fitting e = by_test (list_all is_fit (now_rolled e)) refl
         (gone_of (changes_between rs (now_rolled e))) (puts_of (changes_between rs (now_rolled e))))
         (cond b (rolled e.kept e.kept_digests) (now_rolled e))
     by_test true fit = changes_between-fitting (rolled e.kept e.kept_digests) (now_rolled e)
-        (rolled-rise e.kept e.kept_digests) (rolled-rise e.now e.digests) (rolled-digested e.now e.digests) fit
+        (rolled-rise e.kept e.kept_digests) (rolled-rise e.now e.digests)
+        (rolled-digested e.now e.digests) fit
     by_test false fit = nothing_between (now_rolled e) (rolled-rise e.now e.digests)
 
 pub changes_of-applied : (e : Extents) → changed_rows (rows_of (kept_rolled e)) (moves_of (changes_of e))

@@ -1,7 +1,8 @@
 //! What changed since the last checkpoint, which an entry of a log is written from.
 //!
-//! Each name that was kept is looked at, by rank, whether its object moved or is gone; and then each live
-//! name, whether its record is put. Of most names of a large table nothing is told.
+//! First each name that was kept is looked at, by rank, whether its object moved or it is gone; then each
+//! live name, whether its record is put. So no list of changes is made, and in a large table most of them
+//! come to nothing.
 ghost use Rattle.std.specs.Prelude.{◌≡◌, zero, ◌<◌, Some, length, slice_get};
 ghost use Rattle.std.specs.FinMap as fin;
 ghost use Rattle.slot_codec.specs.Rows.{rows_of};

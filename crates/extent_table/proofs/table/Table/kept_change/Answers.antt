@@ -27,13 +27,14 @@ kept_at-requires c =
 pub unwrap-was-requires : goal.unwrap-was-requires
 unwrap-was-requires c =
     let path = goal.at.unwrap-was-requires c in
-    rw c.kept_at.ensures (was_kept c.self.inside c.self.invariant (within path.After-self) c.index-key.ensures)
+    rw c.kept_at.ensures
+    (was_kept c.self.inside c.self.invariant (within path.After-self) c.index-key.ensures)
 
 pub returns-in-None : goal.returns-in-None
 returns-in-None c =
     let path = goal.at.returns-in-None c in
-    rw (← c.self.view_is) (told_gone c.self.inside c.self.invariant (within path.After-self) c.index-key.ensures
-    (sym c.now_at.ensures ∙ c.in-None.is))
+    rw (← c.self.view_is) (told_gone c.self.inside c.self.invariant (within path.After-self)
+    c.index-key.ensures (sym c.now_at.ensures ∙ c.in-None.is))
     ∙ ap (λ name. Some (gone name)) (sym (c.copied.ensures.value ∙ c.name_at.ensures))
 
 change_is : (c : After-is_moved_at) → c.args.rank < length c.self.inside.kept_order.items
@@ -46,8 +47,9 @@ change_is c low =
     c.self.inside.digests.items =
     c.is_moved_at.ensures ∙ (λ i. is_moved_at c.index-key.result.now c.unwrap-was.result c.in-Some.is'
     (c.deref.ensures.value i) (c.deref-in-Some.ensures.value i)) in
-    rw (← c.self.view_is) (told_still c.self.inside c.self.invariant low c.index-key.ensures c.unwrap-was.result
-    c.in-Some.is' (sym c.kept_at.ensures ∙ c.unwrap-was.ensures) (sym c.now_at.ensures ∙ c.in-Some.is))
+    rw (← c.self.view_is) (told_still c.self.inside c.self.invariant low c.index-key.ensures
+    c.unwrap-was.result c.in-Some.is' (sym c.kept_at.ensures ∙ c.unwrap-was.ensures)
+    (sym c.now_at.ensures ∙ c.in-Some.is))
     ∙ ap (λ b. Some (cond b (moved c.args.rank c.in-Some.is'.place) same)) (sym tested)
 
 pub returns-then-is_moved_at : goal.returns-then-is_moved_at

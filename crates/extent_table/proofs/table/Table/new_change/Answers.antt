@@ -72,8 +72,8 @@ returns-else-is_kept_at c =
     let path = goal.at.returns-else-is_kept_at c in
     let test = path.After-is_kept_at in
     let shown : slice_get (rolled c.args.self.now.now c.args.self.now.digests) c.args.rank ≡ Some (row test) =
-    rw (← c.self.view_is) (told_row c.self.inside c.self.invariant (within path.After-self) c.index-key.ensures
-    c.spot_at-is.result c.spot_at-is.ensures) in
+    rw (← c.self.view_is) (told_row c.self.inside c.self.invariant (within path.After-self)
+    c.index-key.ensures c.spot_at-is.result c.spot_at-is.ensures) in
     change_is test (within path.After-self)
     ∙ ap (λ b. Some (cond b same (put (row test)))) c.if-is_kept_at.false
     ∙ ap (λ r. Some (put r)) (same_Some (row test) c.nth.result (sym shown ∙ c.nth.ensures))
