@@ -10,12 +10,12 @@ use crate::save::write_and_sync;
 use disk_face::{Disk, DiskFault};
 use slot_codec::{Delta, EntryHead, GATE_OPEN, Header};
 
-/// Appends the entry that says a header and what changed, with this head, to a log that ends at a position in
-/// bytes of the file, where its closed gate stands: the entry is written behind that gate, up to 57,344 bytes
-/// in one write, with the closed gate of the entry after it; sync; the gate is opened; sync. Before the first
-/// sync a crash leaves the log as it was beside an old data part, after it the log as it was or with the
-/// entry beside what reads give. `buf` has at least 57,856 bytes: those of one write and the longest item
-/// behind it.
+/// Appends the entry that says a header and what changed, with the head that `entry_head` answers, to a log
+/// that ends at a position in bytes of the file, where its closed gate stands: the entry is written behind
+/// that gate, up to 57,344 bytes in one write, with the closed gate of the entry after it; sync; the gate is
+/// opened; sync. Before the first sync a crash leaves the log as it was beside an old data part, after it the
+/// log as it was or with the entry beside what reads give. `buf` has at least 57,856 bytes: those of one
+/// write and the longest item behind it.
 pub fn append_entry<D: Disk, T: Delta>(
     disk: &mut D,
     at: u64,
