@@ -2,3 +2,5 @@ pub mod Refusals
 pub mod Records
 pub mod Tables
 pub mod Loads
+pub mod Logs
+pub mod Items

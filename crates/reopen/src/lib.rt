@@ -3,6 +3,7 @@
 
 mod boxed;
 mod fault;
+mod items;
 mod records;
 mod state;
 mod table;
