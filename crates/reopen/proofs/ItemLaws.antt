@@ -33,7 +33,8 @@ keeps_nothing cap header load = record {
   few = λ h. h;
 }
 
-pub keeps_on : (cap : ℕ) (a b c : Header) (x y z : Extents) → KeepsMaking cap a b x y → KeepsMaking cap b c y z
+pub keeps_on : (cap : ℕ) (a b c : Header) (x y z : Extents) → KeepsMaking cap a b x y → KeepsMaking cap b c y
+    z
     → KeepsMaking cap a c x z
 keeps_on cap a b c x y z first second = record {
   cells = second.cells ∙ ap (λ (h : Header). record h { caps = c.caps; used = c.used }) first.cells;
@@ -160,7 +161,8 @@ pub taken_bad : (items : Items) (cap : ℕ) (text : List ℕ) (i : ℕ) (first p
     → (file : List ℕ) (p : Passing) → bytes_at file items.at (items_len items) ≡ text
     → Stands items.part cap p first before old
     → Refuses (read_part items file p) (fault.Codec f (items.at + item_len items.part * i))
-taken_bad items cap text i first progress before header old load f less t item is refused file p there stands =
+taken_bad items cap text i first progress before header old load f less t item is refused file p there stands
+    =
     let part = items.part in
     let len = item_len part in
     let was = t.taken file p there stands in
@@ -199,7 +201,8 @@ pub record TakenSoFar (items : Items) (cap done : ℕ) (progress now : Progress)
     pub frame : Unchanged first later
     pub calm : later.faults ≡ first.faults
 
-pub so_far_none : (items : Items) (cap : ℕ) (progress : Progress) (header : Header) (load : Extents) (d : State)
+pub so_far_none : (items : Items) (cap : ℕ) (progress : Progress) (header : Header) (load : Extents) (d :
+    State)
     → IsTrue d.is_ready → TakenSoFar items cap 0 progress progress header header load load d d
 so_far_none items cap progress header load d ready = record {
   few = omega arith;
@@ -222,7 +225,8 @@ pub so_far_more : (items : Items) (cap len done n : ℕ) (start progress now : P
     → Taken items.part cap (read_part (piece_behind items len done n) current.file p) now after new)
     → Unchanged current next → next.faults ≡ current.faults
     → TakenSoFar items cap (done + n) start now before after old new first next
-so_far_more items cap len done n start progress now before header after old load new first current next is few t
+so_far_more items cap len done n start progress now before header after old load new first current next is
+    few t
     keeps
     taken
     frame calm =
@@ -260,7 +264,8 @@ pub so_far_bad : (items : Items) (cap len done n : ℕ) (start progress : Progre
     → Refuses (read_part (piece_behind items len done n) current.file p) why)
     → IsTrue first.tells → (p : Passing) → Stands items.part cap p start before old
     → Refuses (read_part items first.file p) why
-so_far_bad items cap len done n start progress before header old load first current why is few t refused told p
+so_far_bad items cap len done n start progress before header old load first current why is few t refused told
+    p
     stands =
     let part = items.part in
     let each = item_len part in
@@ -270,7 +275,8 @@ so_far_bad items cap len done n start progress before header old load first curr
     let rest = items.count - (done + n) in
     let here = subst (λ file. Refuses (read_part (piece_behind items len done n) file was.passing) why)
     (t.frame.same_file told) (refused told' was.passing was.stands) in
-    let bad = subst (λ l. Refuses (read_part (piece_behind items l done n) first.file was.passing) why) is here in
+    let bad = subst (λ l. Refuses (read_part (piece_behind items l done n) first.file was.passing) why) is
+    here in
     let all : read_part items first.file p
     ≡ (read_items (item_step part) each n first.file there was.passing
     >>= λ q. read_items (item_step part) each rest first.file (there + each * n) q) =

@@ -5,3 +5,8 @@ mod StateLaws
 mod RowLaws
 mod ItemLaws
 mod TakeLaws
+mod EntryLaws
+mod ReadLaws
+mod NextLaws
+mod LogLaws
+mod ThroughLaws

@@ -105,7 +105,10 @@ rows_set r old new table table' set =
     by_tie q true is =
         ap (λ k. Some (row_of new.digests k spot)) (same_name q r.name is)
         ∙ ap (λ d. Some (record r { digest = d })) set.digest
-    by_tie q false is = ap (λ o. option_map (λ (s : Spot). record (record_of (q, s)) { digest = digest_or_zeros o })
+    by_tie q false is = ap (λ o. option_map (λ (s : Spot). record (record_of (q, s)) {
+      digest =
+          digest_or_zeros o;
+    })
         (fin.get old.now q)) (set.others q is)
 
     each : (q : List ℕ) → fin.get (rows_in new) q ≡ fin.get (with_row (rows_in old) r) q

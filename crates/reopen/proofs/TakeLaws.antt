@@ -62,7 +62,8 @@ in_range-cell h i v low ranges =
       | inl on ↦
           ap all_in_range (cond-true (nat_lt i 32) (record h { caps = slice_set h.caps i v })
           (record h { used = with_used h.used i v }) on)
-          ∙ and_from (is_in_range h.wall && is_in_range h.slack && list_all is_in_range (slice_set h.caps i v))
+          ∙ and_from (is_in_range h.wall && is_in_range h.slack && list_all is_in_range (slice_set h.caps i
+          v))
           (list_all (list_all is_in_range) h.used)
           (and_from (is_in_range h.wall && is_in_range h.slack)
           (list_all is_in_range (slice_set h.caps i v)) front.0 caps) all.1
@@ -210,7 +211,8 @@ put_over cap false rows r load table are none full =
     omega (arith, more, count, full)
 
 -- a record that is set
-pub put_set : (cap : ℕ) (over : Bool) (rows : Rows) (r : Record) (old new : Extents) → IsTable old → IsTable new
+pub put_set : (cap : ℕ) (over : Bool) (rows : Rows) (r : Record) (old new : Extents) → IsTable old → IsTable
+    new
     → AreRows cap over rows old → length r.digest ≡ digest_len
     → new.now ≡ fin.insert old.now r.name (record { place = r.place; size = r.size })
     → new.digests ≡ fin.insert old.digests r.name r.digest
@@ -225,7 +227,8 @@ put_taken bytes r rows read = bind_from (read_record 2 bytes) (λ s. Ok (with_ro
 
 -- a name that is there, or one more where there is room, is no name too many
 pub put_few : (cap : ℕ) (spots : Spots) (name : List ℕ) (spot : Spot) → fin.len spots ≤ cap
-    → (is_some (fin.get spots name) ≡ false → fin.len spots < cap) → fin.len (fin.insert spots name spot) ≤ cap
+    → (is_some (fin.get spots name) ≡ false → fin.len spots < cap) → fin.len (fin.insert spots name spot) ≤
+    cap
 put_few cap spots name spot few room = by_name (is_some (fin.get spots name)) refl
     (fin.len-insert nat_list_cmp_total spots name spot)
   where
@@ -332,12 +335,14 @@ pub on_ok : {T E X Y : Type 0} (r : Result T E) → (X → Y) → OnOk r X → O
 on_ok (Ok x) f h = f h
 on_ok (Err e) f h = h
 
-pub if_err : {T E : Type 0} {X Y : E → Type 0} (r : Result T E) → ((e : E) → X e → Y e) → IfErr r X → IfErr r Y
+pub if_err : {T E : Type 0} {X Y : E → Type 0} (r : Result T E) → ((e : E) → X e → Y e) → IfErr r X → IfErr r
+    Y
 if_err (Ok x) f h = h
 if_err (Err e) f h = f e h
 
 -- an item leads from where a header and a table in the making stand to where they stand then
-abbrev pub Leads : ℕ → Passing → List ℕ → Progress → Progress → Header → Header → Extents → Extents → Part → Type 0
+abbrev pub Leads : ℕ → Passing → List ℕ → Progress → Progress → Header → Header → Extents → Extents → Part →
+    Type 0
 Leads cap p bytes progress now header after old new part =
     Stands part cap p progress header old → Taken part cap (item_step part p bytes) now after new
 

@@ -85,8 +85,8 @@ pub record Taken {E : Type 0} (p : Part) (cap : ℕ) (expected : Result Passing 
 abbrev pub OnlyCells : Header → Header → Type 0
 OnlyCells old new = new ≡ record old { caps = new.caps; used = new.used }
 
--- No item changes more of a header than its cells, nor what a log doesn't change of a table in the making, and
--- what was in range, or not too much, still is.
+-- No item changes more of a header than its cells, nor what a log doesn't change of a table in the making,
+-- and what was in range, or not too much, still is.
 pub record KeepsMaking (cap : ℕ) (before now : Header) (old new : Extents) : Type 0 where
   pub cells : OnlyCells before now
   pub ranges : IsTrue (all_in_range before) → IsTrue (all_in_range now)

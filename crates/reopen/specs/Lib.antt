@@ -4,3 +4,4 @@ pub mod Tables
 pub mod Loads
 pub mod Logs
 pub mod Items
+pub mod Entries

@@ -11,7 +11,8 @@ ghost use Rattle.reopen.specs.{Items.{AreRows, KeepsMaking, OnlyCells, Passing, 
 use disk_face::{Disk, read};
 use extent_table::{BulkLoad, Spot};
 use slot_codec::{
-    CodecFault, Header, PAIR_LEN, Record, read_cell, read_move, read_name, read_record,
+    CodecFault, DIGEST_LEN, Header, PAIR_LEN, RECORD_LEN, Record, read_cell, read_move, read_name,
+    read_record,
 };
 use slot_pair::SlotFault;
 
@@ -19,10 +20,7 @@ use slot_pair::SlotFault;
 const ITEMS_A_READ: u64 = 512;
 
 /// The length of a name of an entry, with its own length in front and zeros behind it.
-const NAME_LEN: usize = 64;
-
-/// The length of a record of an entry.
-const PUT_LEN: usize = 112;
+pub(crate) const NAME_LEN: usize = 64;
 
 /// The parts of an entry behind its head.
 #[derive(Clone, Copy)]
@@ -47,8 +45,8 @@ pub(crate) struct Items {
 pub(crate) struct Progress {
     /// The least number that the next cell may have.
     pub next: u64,
-    /// Whether the entry puts more names than the table has room for. The first that found no room isn't in
-    /// it, and the records behind it may not be either.
+    /// Whether there are more names than a slot has room for. The first that found no room isn't in the
+    /// table, and the records behind it may not be either.
     pub over: bool,
 }
 
@@ -201,7 +199,8 @@ fn take_item(
 /// Gives a header the cell that 16 bytes say.
 fn take_cell(item: &[u8], next: &mut u64, header: &mut Header) -> Result<(), CodecFault>
     requires len { length item.now ≡ 16 }
-    ensures taken { OnOk result (cell_step (given next.old header.old) item.now ≡ Ok (given next.new header.new)) }
+    ensures taken { OnOk result (cell_step (given next.old header.old) item.now
+        ≡ Ok (given next.new header.new)) }
     ensures refused { IfErr result (λ fault. cell_step (given next.old header.old) item.now ≡ Err fault) }
     ensures cells { OnlyCells header.old header.new }
     ensures ranges { IsTrue (all_in_range header.old) → IsTrue (all_in_range header.new) }
@@ -307,7 +306,7 @@ fn item_len(part: Part) -> usize
     match part {
         Part::Cells | Part::Moved => PAIR_LEN,
         Part::Gone => NAME_LEN,
-        Part::Puts => PUT_LEN,
+        Part::Puts => RECORD_LEN + DIGEST_LEN,
         Part::Gap => 1,
     }
 }

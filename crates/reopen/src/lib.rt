@@ -4,6 +4,7 @@
 mod boxed;
 mod fault;
 mod items;
+mod log;
 mod records;
 mod state;
 mod table;

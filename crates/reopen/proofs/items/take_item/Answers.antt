@@ -12,7 +12,8 @@ returns-in-Cells-clause-taken c = λ p stands.
     let now : Progress = record c.args.progress.now { next = c.take_cell.new.next } in
     on_ok c.take_cell.result (λ read. subst
     (Leads c.args.cap p c.args.item.now c.args.progress.now now header after load load) (sym c.in-Cells.is)
-    (λ there. cell_stands c.args.cap p c.args.progress.now now header after load c.args.item.now there read refl)
+    (λ there. cell_stands c.args.cap p c.args.progress.now now header after load c.args.item.now there read
+    refl)
     stands) c.take_cell.ensures.taken
 
 pub returns-in-Moved-clause-taken : goal.returns-in-Moved-clause-taken

@@ -20,8 +20,10 @@ items-preserved c =
     let item = c.item_at-item.ensures
     ∙ ap (λ (l : ℕ). bytes_at c.args.text.now (l * c.items.i) l) c.item_len-len.ensures.value in
     taken_more c.args.items c.args.cap c.args.text.now c.items.i c.args.progress.now c.items.progress
-    c.take_item.new.progress c.args.header.now c.items.header c.take_item.new.header c.args.load.now c.items.load
-    c.take_item.new.load c.items-test.true c.items.invariant c.take_item.ensures.rest c.item_at-item.result.now
+    c.take_item.new.progress c.args.header.now c.items.header c.take_item.new.header c.args.load.now
+    c.items.load
+    c.take_item.new.load c.items-test.true c.items.invariant c.take_item.ensures.rest
+    c.item_at-item.result.now
     item c.in_default.ensures.taken
 
 pub returns-in-Err-clause-refused : goal.returns-in-Err-clause-refused

@@ -16,7 +16,8 @@ returns-clause-taken c =
     gone_taken c.args.item.now c.in_ok-name.name c.args.load.now c.remove.new.self c.requires.table
     c.remove.ensures.table (sym c.read_name.ensures.value ∙ c.in_ok-name.was)
     (c.has.ensures.0 c.if-not-has.false)
-    (ap (λ (e : Extents). e.now) c.remove.ensures.only) (ap (λ (e : Extents). e.digests) c.remove.ensures.only)
+    (ap (λ (e : Extents). e.now) c.remove.ensures.only) (ap (λ (e : Extents). e.digests)
+    c.remove.ensures.only)
 
 pub returns-clause-few : goal.returns-clause-few
 returns-clause-few c =

@@ -23,7 +23,8 @@ returns-clause-taken c = λ rows are.
       with_row rows r,
       put_taken c.args.item.now r rows (sym c.record_in.ensures.value ∙ c.in_ok-record.was),
       put_set c.args.cap c.args.over.now rows r c.args.load.now c.set.new.self c.requires.table
-          c.set.ensures.table are c.in_ok-record.ensures.digested (ap (λ (e : Extents). e.now) c.set.ensures.only)
+          c.set.ensures.table are c.in_ok-record.ensures.digested (ap (λ (e : Extents). e.now)
+          c.set.ensures.only)
           (ap (λ (e : Extents). e.digests) c.set.ensures.only),
     )
 
