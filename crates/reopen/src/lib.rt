@@ -10,4 +10,5 @@ mod state;
 mod table;
 
 pub use fault::OpenFault;
+pub use log::read_log;
 pub use state::{BoxedLoaded, Loaded, State, load_state, read_state};

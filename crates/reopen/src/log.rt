@@ -18,7 +18,7 @@ use slot_pair::SlotFault;
 /// Goes through the log of a slot for `cap` records, whose first gate stands at `at` and which must end below
 /// `top`. A header and a table in the making are those before the log, and come to be those behind its last
 /// open entry. Answers where the next entry would stand. `buf` is to have room for 512 records.
-pub(crate) fn read_log<D: Disk>(
+pub fn read_log<D: Disk>(
     disk: &mut D,
     at: u64,
     top: u64,
