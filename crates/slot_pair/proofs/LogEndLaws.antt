@@ -52,7 +52,8 @@ room_read file start top at left answer is gate rest some answered =
     let same : room_at start 0 ≡ room = start_room file start at is in
     let unmoved : at ≡ at + 0 = omega arith in
     let first : slice_index file at ≡ gate_open =
-    ap (slice_index file) unmoved ∙ sym (bytes_at-index file at 40 0 (omega arith)) ∙ ap (λ xs. slice_index xs 0) (sym is) ∙ gate in
+    ap (slice_index file) unmoved ∙ sym (bytes_at-index file at 40 0 (omega arith))
+    ∙ ap (λ xs. slice_index xs 0) (sym is) ∙ gate in
     let on : is_open file at ≡ true = eq-eqb (slice_index file at) gate_open first in
     let test : nat_lt (room_at start 0) left ≡ goes_on file top at =
     ap (λ (n : ℕ). nat_lt n left) same ∙ lt_moved room left top at rest some

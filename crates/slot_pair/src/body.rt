@@ -1,5 +1,5 @@
 //! Writing the body of a slot: a header, and the records behind it.
-ghost use Rattle.std.specs.Prelude.{◌≡◌, ◌+◌, ◌*◌, ◌/◌, ◌^◌, ◌<◌, ◌≤◌, OnOk, IsTrue, drop, flat_map, length, take};
+ghost use Rattle.std.specs.Prelude.{◌≡◌, ◌+◌, ◌*◌, ◌/◌, ◌^◌, ◌<◌, ◌≤◌, OnOk, IsTrue, drop, flat_map, length, min, take};
 ghost use Rattle.byte_ranges.specs.Ranges.{bytes_at};
 ghost use Rattle.slot_codec.specs.{Reading.{is_version}, Spelling.{header_bytes, header_len, record_bytes, record_len}};
 ghost use Rattle.disk_face.specs.{Counts.{HasCause, counted}, Frames.{Asks, Calls, call_weight}, Moments.{Rests}, Writes.{WritesWithin}};
@@ -9,7 +9,7 @@ use disk_face::{Disk, DiskFault};
 use slot_codec::{HEADER_LEN, Header, Roll, record_len, write_header};
 
 /// How many records one write has at most.
-const RECORDS_A_WRITE: u64 = 512;
+pub(crate) const RECORDS_A_WRITE: u64 = 512;
 
 /// Writes a header at a position and the records behind it, and syncs.
 pub fn write_table<D: Disk, R: Roll>(
@@ -73,7 +73,7 @@ fn put_table<D: Disk, R: Roll>(
 }
 
 /// Writes a header at a position.
-fn put_header<D: Disk>(
+pub(crate) fn put_header<D: Disk>(
     disk: &mut D,
     at: u64,
     header: &Header,
@@ -117,15 +117,19 @@ fn put_records<D: Disk, R: Roll>(
     ensures asks { Asks (call_weight * ((length (R.records roll.now) + 511) / 512) + record_len version * length
         (R.records roll.now)) 0 (D.state disk.old) (D.state disk.new) }
 {
-    put_pieces(disk, at, version, record_len(version), roll, buf)
+    let len = record_len(version);
+    let pieces = (roll.count() + (RECORDS_A_WRITE - 1)) / RECORDS_A_WRITE;
+    put_pieces(disk, at, version, len, pieces, roll, buf)
 }
 
-/// Writes the records at a position, each of which takes `len` bytes.
-fn put_pieces<D: Disk, R: Roll>(
+/// Writes the first pieces of the records at a position, 512 records in each piece and what is left in the
+/// last one. Each record takes `len` bytes.
+pub(crate) fn put_pieces<D: Disk, R: Roll>(
     disk: &mut D,
     at: u64,
     version: u8,
     len: usize,
+    pieces: u64,
     roll: &R,
     buf: &mut [u8],
 ) -> Result<(), DiskFault>
@@ -134,22 +138,24 @@ fn put_pieces<D: Disk, R: Roll>(
     requires len { len ≡ record_len version }
     requires low { 80 ≤ len }
     requires short { len ≤ 112 }
+    requires pieces { 512 * pieces ≤ length (R.records roll.now) + 511 }
     requires room { 57344 ≤ length buf.old }
     requires fits { at + len * length (R.records roll.now) < 2 ^ 63 }
     requires within { IsTrue (D.state disk.old).tells
         → at + len * length (R.records roll.now) ≤ length (D.state disk.old).file }
     ensures records { IsTrue (D.state disk.old).tells
-        → OnOk result (bytes_at (D.state disk.new).file at (len * length (R.records roll.now))
-        ≡ flat_map (record_bytes version) (R.records roll.now)) }
+        → OnOk result (bytes_at (D.state disk.new).file at
+        (len * min (512 * pieces) (length (R.records roll.now)))
+        ≡ flat_map (record_bytes version) (take (min (512 * pieces) (length (R.records roll.now)))
+        (R.records roll.now))) }
     ensures writes { WritesWithin at (len * length (R.records roll.now)) (D.state disk.old)
         (D.state disk.new) }
-    ensures calls { Calls ((length (R.records roll.now) + 511) / 512) (D.state disk.old) (D.state disk.new)
-        result }
-    ensures asks { Asks (call_weight * ((length (R.records roll.now) + 511) / 512) + len * length
-        (R.records roll.now)) 0 (D.state disk.old) (D.state disk.new) }
+    ensures calls { Calls pieces (D.state disk.old) (D.state disk.new) result }
+    ensures asks { Asks (call_weight * pieces + len * min (512 * pieces) (length (R.records roll.now))) 0
+        (D.state disk.old) (D.state disk.new) }
 {
     let count = roll.count();
-    'pieces: for piece in 0..(count + 511) / RECORDS_A_WRITE {
+    'pieces: for piece in 0..pieces {
         let first = RECORDS_A_WRITE * piece;
         let n = (count - first).min(RECORDS_A_WRITE);
         spell_records(roll, version, len, first, n, buf);
@@ -159,7 +165,7 @@ fn put_pieces<D: Disk, R: Roll>(
 }
 
 /// Spells a header, and answers how many bytes that are.
-fn spell_header(header: &Header, out: &mut [u8]) -> usize
+pub(crate) fn spell_header(header: &Header, out: &mut [u8]) -> usize
     requires { header_len ≤ length out.old }
     ensures len { result ≡ header_len }
     ensures text { take result out.new ≡ header_bytes header.now }
@@ -169,7 +175,14 @@ fn spell_header(header: &Header, out: &mut [u8]) -> usize
 }
 
 /// Spells `n` records from record `first` on, each of which takes `len` bytes.
-fn spell_records<R: Roll>(roll: &R, version: u8, len: usize, first: u64, n: u64, out: &mut [u8])
+pub(crate) fn spell_records<R: Roll>(
+    roll: &R,
+    version: u8,
+    len: usize,
+    first: u64,
+    n: u64,
+    out: &mut [u8],
+)
     requires version { IsTrue (is_version version) }
     requires len { len ≡ record_len version }
     requires short { len ≤ 112 }

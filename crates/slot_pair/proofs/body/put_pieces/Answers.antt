@@ -19,11 +19,6 @@ pieces-init g c = record {
   asks = record { weight = omega arith; longest = omega arith };
 }
 
-pub overflow_add-piece-end : goal.overflow_add-piece-end
-overflow_add-piece-end g c =
-    let inside = mul-le-mul_left (length (g.R.Roll.records c.args.roll.now)) c.requires.low in
-    omega (arith, inside, c.requires.fits, c.count-count.ensures)
-
 pub spell_records-requires-clause-fits : goal.spell_records-requires-clause-fits
 spell_records-requires-clause-fits g c =
     let inside = mul-le-mul_left (length (g.R.Roll.records c.args.roll.now)) c.requires.low in
@@ -87,8 +82,9 @@ returns-in_err-write_at-clause-asks g c =
     let long : length (take (len * n) c.spell_records.new.out)
     ≡ len * n = length-take-le (len * n) c.spell_records.new.out in_room in
     let so_far : min first (length rs) ≡ first = omega arith in
+    let asked : first + n ≤ min (512 * c.args.pieces) (length rs) = omega (arith, far) in
     asks_then c.pieces.invariant.asks c.write_at.ensures.frame.asks
-    (omega (arith, long, mul-le-mul_left len far, ap (λ k. len * k) so_far)) (omega arith) (omega arith)
+    (omega (arith, long, mul-le-mul_left len asked, ap (λ k. len * k) so_far)) (omega arith) (omega arith)
 
 pub pieces-preserved : goal.pieces-preserved
 pieces-preserved g c =
