@@ -109,8 +109,8 @@ module _ (k names : ℕ) (p : Plan) (plan : IsPlanFor k names p)
   whole_text : (objects : List Entry) → mid ≡ objects_text objects → mid ≡ objects_text objects ++ []
   whole_text objects is = is ∙ sym (append-nil (objects_text objects))
 
-  module _ (after left : List ℕ) where
-    opened : (image : List ℕ) → OpensRead k names p (passed heard mid after) image
+  module _ (ahead left : List ℕ) where
+    opened : (image : List ℕ) → OpensRead k names p (passed heard mid (ahead ++ left)) image
         → OpensDump k names (passed tells before left) image
     opened image o =
         let es = fin.entries o.objects in
@@ -121,19 +121,20 @@ module _ (k names : ℕ) (p : Plan) (plan : IsPlanFor k names p)
               (reads_to es [] (omega (arith, o.read.count)) o.read.follow
               (whole_text es (o.read.whole (subst IsTrue (sym same) t))) t)
               o.read.count o.read.filled o.objects refl;
+          ended = λ t. none_behind ahead left (o.read.ended (subst IsTrue (sym same) t));
           opens = subst (λ (vs : List ℕ). OpensFor k names image o.objects (laid_with vs))
               (sym vols) o.opens;
           ends = o.ends ∙ ap (λ (vs : List ℕ). head_len names + end_of k vs) (sym vols);
         }
 
-    pub image_loaded : (image : List ℕ) → IsNoneOrRead k names p (passed heard mid after) image
+    pub image_loaded : (image : List ℕ) → IsNoneOrRead k names p (passed heard mid (ahead ++ left)) image
         → IsLoadImage k names (passed tells before left) image
     image_loaded image (inl none) = inl none
     image_loaded image (inr (inl empty)) = inr (inl empty)
     image_loaded image (inr (inr read)) = inr (inr (opened image read))
 
     pub file_loaded : (file : List ℕ) (result : Result Unit LoadFault) → IsLineOrDevice result
-        → LeavesNew k names p (passed heard mid after) file result
+        → LeavesNew k names p (passed heard mid (ahead ++ left)) file result
         → LeavesLoaded k names (passed tells before left) file result
     file_loaded file (Ok done) only leaves = opened file leaves
     file_loaded file (Err (why.Line zero)) only leaves = absurd (omega (arith, only))

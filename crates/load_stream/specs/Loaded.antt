@@ -99,10 +99,12 @@ Judges (Err why.Source) = ⊥
 -- ---- the file
 
 -- An image opens to a map with its objects laid out at once and nothing in buffers, and the input is that
--- map's dump. It is made for this divisor and so many names, and ends with its layout.
+-- map's dump and was read to its end. It is made for this divisor and so many names, and ends with its
+-- layout.
 pub record OpensDump (k names : ℕ) (x : Passed) (image : List ℕ) : Type 0 where
   pub objects : Map
   pub dump : IsTrue x.tells → IsDumpOf CLASSES SIZE_MAX objects x.before
+  pub ended : IsTrue x.tells → x.left ≡ []
   pub opens : OpensFor k names image objects (laid_book objects)
   pub ends : length image ≡ head_len names + book_end k (laid_book objects)
 

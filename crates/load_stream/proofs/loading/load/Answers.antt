@@ -58,18 +58,17 @@ returns-clause-left g c told =
     let p = c.in_ok-plan.plan in
     let before = (i c.args.input.now).left in
     let mid = c.read_plan.new.ahead ++ (i c.read_plan.new.input).left in
-    let after = c.fill_new.new.ahead ++ (i c.fill_new.new.input).left in
     let line : IsTrue (i c.args.input.now).tells
     → before ≡ head_line CLASSES p.head.count (volumes_of_head p.head) ++ 10 ∷ mid =
     λ t. sym (ap (λ (xs : List ℕ). xs ++ before) c.new-ahead.ensures) ∙ c.in_ok-plan.ensures.line t in
     record {
       file = file_loaded c.args.k c.args.names p c.in_ok-plan.ensures.plan c.in_ok-plan.ensures.head
           (i c.args.input.now).tells (i c.read_plan.new.input).tells c.read_plan.ensures.cause.told before mid
-          line after (i c.fill_new.new.input).left (g.D.Disk.state c.fill_new.new.disk).file c.fill_new.result
-          c.fill_new.ensures.only (c.fill_new.ensures.file told);
+          line c.fill_new.new.ahead (i c.fill_new.new.input).left (g.D.Disk.state c.fill_new.new.disk).file
+          c.fill_new.result c.fill_new.ensures.only (c.fill_new.ensures.file told);
       images = λ only. Leaves-weaken _ (image_loaded c.args.k c.args.names p c.in_ok-plan.ensures.plan
           c.in_ok-plan.ensures.head (i c.args.input.now).tells (i c.read_plan.new.input).tells
-          c.read_plan.ensures.cause.told before mid line after (i c.fill_new.new.input).left)
+          c.read_plan.ensures.cause.told before mid line c.fill_new.new.ahead (i c.fill_new.new.input).left)
           (c.fill_new.ensures.images told only);
       rests = c.fill_new.ensures.rests told;
     }
