@@ -108,11 +108,17 @@ pub first_settled : (k names : ℕ) → (first_table k names).chosen.header.kind
 unfolding first_header
 first_settled k names = refl
 
+-- and has the sequence of the format
+pub first_sequence : (k names : ℕ) → (first_table k names).chosen.header.sequence ≡ 1
+unfolding first_header
+first_sequence k names = refl
+
 -- a file that was formatted for these numbers opens by its table to the empty map, however long it is
 pub empty_for : (k names : ℕ) (file : List ℕ) → HasFirstTable k names file → OpensEmpty k names file
 empty_for k names file first = record {
   table = first_table k names;
   made_for = refl;
   settled = first_settled k names;
+  low = omega (arith, first_sequence k names);
   opens = first_opens k names file first;
 }

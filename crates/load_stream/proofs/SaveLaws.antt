@@ -34,7 +34,7 @@ use Rattle.dump_stream.specs.Placing.{IsPlacing}
 use Rattle.load_stream.specs.Saved.{IsEmptyLike, IsEmptyOrLaid, IsLaidBeside, OpensEmpty, OpensLaid, empty_book, laid_with}
 use Rattle.load_stream.specs.declared.plan.Plan.{Plan}
 use Rattle.dump_stream.proofs.FirstLaws.{first_opens}
-use Rattle.load_stream.proofs.ImageLaws.{first_settled}
+use Rattle.load_stream.proofs.ImageLaws.{first_sequence, first_settled}
 use Rattle.load_stream.proofs.LaidLaws.{laid_book_is, laid_valid}
 
 module _ (k names : ℕ) (caps : List ℕ) (e : Extents) (table : IsTable e) (file : List ℕ)
@@ -70,6 +70,7 @@ module _ (k names : ℕ) (caps : List ℕ) (e : Extents) (table : IsTable e) (fi
       table = at;
       made_for = refl;
       settled = refl;
+      low = omega arith;
       opens = subst (λ (b : Book). OpensBy CLASSES SIZE_MAX at image (read_at (head_len names) file e.now) b)
           book
           (new_image_opens CLASSES SIZE_MAX at (rolled e.now e.digests) file image
@@ -86,6 +87,7 @@ module _ (k names : ℕ) (caps : List ℕ) (e : Extents) (table : IsTable e) (fi
     table = first_table k names;
     made_for = refl;
     settled = first_settled k names;
+    low = omega (arith, first_sequence k names);
     opens = old_image_opens CLASSES SIZE_MAX (first_table k names) file before image fin.empty empty_book
         first.table
         (first_opens k names before had) keeps same;

@@ -37,11 +37,12 @@ abbrev pub laid_with : List ℕ → Book
 laid_with caps = record { caps = caps; grid = zero_grid; buffered = set.empty; digests = None }
 
 -- An image opens to this map and this book by a settled table, and is made for this divisor and so many
--- names.
+-- names. The table is the format's checkpoint, of sequence 1, or the one that a save makes after it.
 pub record OpensFor (k names : ℕ) (image : List ℕ) (m : Map) (b : Book) : Type 0 where
   pub table : choice.SlotTable
   pub made_for : table.chosen.block ≡ block_for k names
   pub settled : table.chosen.header.kind ≡ Settled
+  pub low : table.chosen.header.sequence ≤ 2
   pub opens : OpensBy CLASSES SIZE_MAX table image m b
 
 -- the file opens to the empty map
