@@ -15,9 +15,11 @@ use Rattle.disk_face.proofs.MomentLaws.{Leaves-trans, Leaves-weaken}
 use Rattle.size_class.specs.declared.TheConstants.{SIZE_MAX}
 use Rattle.slot_codec.specs.Readable.{IsSuperBlock}
 use Rattle.slot_codec.specs.Spelling.{head_len}
+use Rattle.slot_codec.specs.declared.codec.Record.{Record}
 use Rattle.slot_codec.specs.declared.codec.SuperBlock.{SuperBlock}
 use Rattle.slot_pair.specs.Formats.{HasFirstTable}
 use Rattle.slot_pair.specs.Saves.{IsAlikeBelow, save_calls, save_weight}
+use Rattle.map_model.specs.Weights.{Entry}
 use Rattle.segment_layout.specs.Layouts.{caps_of, divisor_of}
 use Rattle.segment_layout.specs.Shapes.{end_of}
 use Rattle.placement_model.specs.Reads.{read_at}
@@ -33,6 +35,7 @@ use Rattle.load_stream.specs.declared.plan.Plan.{Plan}
 use Rattle.load_stream.specs.declared.plan.SoFar.{SoFar}
 use Rattle.load_stream.specs.Images.{StaysEmpty}
 use Rattle.load_stream.specs.Saved.{IsEmptyLike, IsEmptyOrLaid, IsLaidBeside, IsPlanFor, LeavesRead, MapRead, OpensEmpty, OpensFor, OpensLaid, OpensRead, ReadsBody, StopsBody, laid_with}
+use Rattle.load_stream.specs.Standing.{StandInOrder}
 use Rattle.load_stream.specs.Steps.{LoadsAll, Passed, StopsIn}
 use Rattle.load_stream.specs.Weights.{fill_weight, objects_weight}
 use Rattle.load_stream.proofs.LoopLaws.{loads_count}
@@ -105,16 +108,25 @@ module _ (p : Plan) (now : SoFar) (x : Passed) (first state : State) (told : IsT
   }
 
   -- what opens as laid out opens to it
-  pub opens_read : (k names : ℕ) → p.base ≡ head_len names
+  pub opens_read : (k names : ℕ) → divisor_of p.layout ≡ k → p.base ≡ head_len names
       → p.base + end_of k (caps_of p.layout) ≡ length state.file → (image : List ℕ)
       → OpensLaid k names (caps_of p.layout) now.load state.file image → OpensRead k names p x image
-  opens_read k names base long image laid = record {
-    objects = read_at p.base state.file now.load.now;
-    read = map_read;
-    opens = subst (λ (b : ℕ). OpensFor k names image (read_at b state.file now.load.now)
-        (laid_with (caps_of p.layout))) (sym base) laid.opens;
-    ends = omega (arith, laid.same_length, long, base);
-  }
+  opens_read k names divisor base long image laid =
+      let is = l.to.read told in
+      let by : (o : OpensFor k names image (read_at p.base state.file now.load.now)
+      (laid_with (caps_of p.layout))) × (o.table.records ≡ records_of now.load.now) =
+      subst (λ (b : ℕ). (o : OpensFor k names image (read_at b state.file now.load.now)
+      (laid_with (caps_of p.layout))) × (o.table.records ≡ records_of now.load.now)) (sym base)
+      (laid.opens, laid.same_records) in
+      record {
+        objects = read_at p.base state.file now.load.now;
+        read = map_read;
+        opens = by.0;
+        places = subst (λ (z : ℕ × (List Entry × List Record)).
+            StandInOrder z.0 (caps_of p.layout) z.1.0 z.1.1)
+            (λ i. (divisor i, (sym is i, sym by.1 i))) l.to.places;
+        ends = omega (arith, laid.same_length, long, base);
+      }
 
 -- ---- where it stops
 
@@ -235,7 +247,8 @@ module _ (k names : ℕ) (p : Plan) (s0 s1 s2 : State) (now : SoFar) (x : Passed
 
   pub saved_read : (image : List ℕ) → OpensLaid k names (caps_of p.layout) e s2.file image
       → OpensRead k names p x image
-  saved_read image opens = opens_read p now x s1 s2 told_before h.all k names h.grown.plan.base long image
+  saved_read image opens = opens_read p now x s1 s2 told_before h.all k names h.grown.plan.divisor
+      h.grown.plan.base long image
       (subst (λ (t : Extents). OpensLaid k names (caps_of p.layout) t s2.file image) h.same opens)
 
   pub saved_either : (image : List ℕ) → IsEmptyOrLaid k names p e s2.file image

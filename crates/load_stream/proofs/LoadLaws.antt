@@ -13,6 +13,7 @@ use Rattle.slot_pair.specs.Formats.{IsNoStoreOrEmpty}
 use Rattle.slot_pair.specs.Saves.{save_calls}
 use Rattle.map_model.specs.Maps.{Map, name_cmp}
 use Rattle.map_model.specs.Weights.{Entry}
+use Rattle.segment_layout.specs.Books.{volumes}
 use Rattle.segment_layout.specs.Layouts.{caps_of, divisor_of}
 use Rattle.segment_layout.specs.Shapes.{end_of}
 use Rattle.dump_stream.specs.Dumps.{IsDumpOf, objects_text}
@@ -24,6 +25,7 @@ use Rattle.load_stream.specs.declared.plan.Plan.{Plan}
 use Rattle.load_stream.specs.Faults.{IsFirstFault, IsLineOrDevice}
 use Rattle.load_stream.specs.Loaded.{AnswersLoad, AsksLoaded, AsksToLoad, IsLoadImage, LeavesLoaded, LoadsWhole, OpensDump, TellsFew, TellsTooMany}
 use Rattle.load_stream.specs.Saved.{IsNoneOrRead, IsPlanFor, LeavesNew, LeavesRead, OpensEmpty, OpensFor, OpensRead, ReadsBody, StopsBody, laid_with}
+use Rattle.load_stream.specs.Standing.{StandInOrder}
 use Rattle.load_stream.specs.Steps.{Passed, object_calls, passed}
 use Rattle.load_stream.specs.Weights.{load_weight}
 use Rattle.load_stream.proofs.ImageLaws.{empty_for}
@@ -115,6 +117,10 @@ module _ (k names : ℕ) (p : Plan) (plan : IsPlanFor k names p)
     opened image o =
         let es = fin.entries o.objects in
         let vols = volumes_filled o.objects ∙ o.read.filled in
+        let by : (f : OpensFor k names image o.objects (laid_with (volumes o.objects)))
+        × StandInOrder k (volumes o.objects) es f.table.records =
+        subst (λ (vs : List ℕ). (f : OpensFor k names image o.objects (laid_with vs))
+        × StandInOrder k vs es f.table.records) (sym vols) (o.opens, o.places) in
         record {
           objects = o.objects;
           dump = λ t. read_is_dump CLASSES SIZE_MAX p.head.count before (caps_of p.layout) es
@@ -122,8 +128,8 @@ module _ (k names : ℕ) (p : Plan) (plan : IsPlanFor k names p)
               (whole_text es (o.read.whole (subst IsTrue (sym same) t))) t)
               o.read.count o.read.filled o.objects refl;
           ended = λ t. none_behind ahead left (o.read.ended (subst IsTrue (sym same) t));
-          opens = subst (λ (vs : List ℕ). OpensFor k names image o.objects (laid_with vs))
-              (sym vols) o.opens;
+          opens = by.0;
+          places = by.1;
           ends = o.ends ∙ ap (λ (vs : List ℕ). head_len names + end_of k vs) (sym vols);
         }
 

@@ -1,5 +1,5 @@
 -- One object more behind those that were loaded.
-use Rattle.std.specs.Prelude.{◌≡◌, ◌⊎◌, ℕ, ◌+◌, ◌<◌, ◌≤◌, true, List, [], ◌∷◌, ◌++◌, length, map, slice_index, sum, Bool, Option, None, IsTrue, refl}
+use Rattle.std.specs.Prelude.{◌≡◌, ◌⊎◌, ℕ, ◌+◌, ◌<◌, ◌≤◌, zero, suc, true, List, [], ◌∷◌, ◌++◌, length, map, slice_get, slice_index, sum, Bool, Option, Some, None, IsTrue, refl}
 use Rattle.std.proofs.Common.{arith, ap, sym, ◌∙◌, subst, inl, inr, append-nil, append_assoc, length-append}
 use Rattle.std.proofs.lemmas.Bool.{cases_eq, cases_lt}
 use Rattle.std.proofs.lemmas.Grind.{flat_map-append}
@@ -24,7 +24,7 @@ use Rattle.segment_layout.specs.Layouts.{caps_of, divisor_of}
 use Rattle.segment_layout.specs.Shapes.{end_of}
 use Rattle.data_area.specs.Pieces.{pieces}
 use Rattle.extent_table.specs.declared.spot.Spot.{Spot}
-use Rattle.extent_table.specs.Extents.{Spots}
+use Rattle.extent_table.specs.Extents.{Spots, record_of, records_of}
 use Rattle.placement_model.specs.Reads.{read_at}
 use Rattle.table_rules.specs.Tables.{map_of}
 use Rattle.dump_stream.specs.Dumping.{AreSizes}
@@ -33,11 +33,12 @@ use Rattle.dump_stream.specs.Loading.{AllFollow, MayFollow, NoneFollows, filled_
 use Rattle.dump_stream.specs.Placing.{IsPlacing, spot_after, spot_at}
 use Rattle.load_stream.specs.declared.plan.Plan.{Plan}
 use Rattle.load_stream.specs.declared.plan.SoFar.{SoFar}
+use Rattle.load_stream.specs.Standing.{StandInOrder}
 use Rattle.load_stream.specs.Steps.{AsksForOne, HasRoom, LoadsObject, LoadsTo, NoneStands, Passed, StandsNext, StopsIn, object_calls, passed}
 use Rattle.load_stream.specs.Weights.{objects_weight}
 use Rattle.load_stream.proofs.ImageLaws.{no_records, none_filled}
 use Rattle.load_stream.proofs.MapLaws.{objects_read}
-use Rattle.load_stream.proofs.PlaceLaws.{filled_more, last_more, places_more, places_none}
+use Rattle.load_stream.proofs.PlaceLaws.{filled_more, last_more, placed_count, places_more, places_none, records_more}
 use Rattle.load_stream.proofs.WeightLaws.{filled_full, filled_total, less_weight, one_weight, total_room}
 
 -- ---- an object that may stand there
@@ -90,6 +91,20 @@ module _ (last : Option (List ℕ)) (volumes filled : List ℕ) (es : List Entry
       → NoneFollows SIZE_MAX volumes es input
   none_follows input none e behind may h = none e behind (stands_next e may) h
 
+-- ---- the last of some records
+
+get_last : (rs : List Record) (r : Record) (n : ℕ) → n ≡ length rs → slice_get (rs ++ r ∷ []) n ≡ Some r
+get_last [] r zero is = refl
+get_last [] r (suc n) is = absurd (omega (arith, is))
+get_last (x ∷ rs) r zero is = absurd (omega (arith, is))
+get_last (x ∷ rs) r (suc n) is = get_last rs r n (omega (arith, is))
+
+get_before : (rs others : List Record) (n : ℕ) (r : Record) → slice_get rs n ≡ Some r
+    → slice_get (rs ++ others) n ≡ Some r
+get_before [] others n r is = absurd (cc)
+get_before (x ∷ rs) others zero r is = is
+get_before (x ∷ rs) others (suc n) r is = get_before rs others n r is
+
 -- ---- the last of some objects
 
 Split : List Entry → Entry → List Entry → Entry → Type 0
@@ -124,6 +139,27 @@ follow_more size_max volumes es e each may before after x is = elim (parts es e 
   | inr within ↦ each before within.0 x within.1
 ]
 
+-- ---- where they stand
+
+pub stand_none : (k : ℕ) (volumes : List ℕ) (records : List Record) → StandInOrder k volumes [] records
+stand_none k volumes records before behind e is =
+    absurd (omega (arith, ap length is, length-append before (e ∷ behind)))
+
+pub stand_more : (k : ℕ) (volumes : List ℕ) (es : List Entry) (e : Entry) (records : List Record)
+    → length records ≡ length es → StandInOrder k volumes es records
+    → StandInOrder k volumes (es ++ e ∷ [])
+    (records ++ record_of (e.0, spot_after k volumes es (length e.1)) ∷ [])
+unfolding Split
+stand_more k volumes es e records long stand before behind x is = elim (parts es e before behind x is) [
+  | inl end ↦ subst (λ (z : List Entry × Entry).
+      slice_get (records ++ record_of (e.0, spot_after k volumes es (length e.1)) ∷ []) (length z.0)
+      ≡ Some (record_of (z.1.0, spot_after k volumes z.0 (length z.1.1)))) (λ i. (sym end.0 i, sym end.1 i))
+      (get_last records (record_of (e.0, spot_after k volumes es (length e.1))) (length es) (sym long))
+  | inr within ↦ get_before records (record_of (e.0, spot_after k volumes es (length e.1)) ∷ [])
+      (length before) (record_of (x.0, spot_after k volumes before (length x.1)))
+      (stand before within.0 x within.1)
+]
+
 -- ---- the text
 
 pub text_more : (es : List Entry) (e : Entry) (input mid rest : List ℕ) → input ≡ objects_text es ++ mid
@@ -156,13 +192,14 @@ pub loads_none : (p : Plan) (s : SoFar) (tells : Bool) (input : List ℕ) (d : S
     → length (caps_of p.layout) ≡ width → s.load.now ≡ fin.empty → cells_of s.filled ≡ zero_row
     → s.last ≡ None
     → LoadsTo p s (passed tells input input) 0 d d
-loads_none p s tells input d wide empty zero none = record {
+loads_none p s tells input d wide empty unfilled none = record {
   objects = [];
   same_count = refl;
   follow = follow_none SIZE_MAX (caps_of p.layout);
   placing = subst (IsPlacing SIZE_MAX (divisor_of p.layout) (caps_of p.layout) []) (sym empty)
       (places_none SIZE_MAX (divisor_of p.layout) (caps_of p.layout) wide);
-  filled = zero ∙ sym none_filled;
+  places = stand_none (divisor_of p.layout) (caps_of p.layout) (records_of s.load.now);
+  filled = unfilled ∙ sym none_filled;
   last = none;
   whole = λ t. refl;
   read = λ t. ap (λ (spots : Spots). fin.entries (read_at p.base d.file spots)) empty
@@ -209,6 +246,11 @@ module _ (p : Plan) (wide : length (caps_of p.layout) ≡ width) (old new : SoFa
     follow = follow_more SIZE_MAX caps es e o.follow may;
     placing = subst (IsPlacing SIZE_MAX k caps (es ++ e ∷ [])) (sym now_is)
         (places_more SIZE_MAX k caps wide es old.load.now o.placing e may);
+    places = subst (StandInOrder k caps (es ++ e ∷ []))
+        (sym (records_more SIZE_MAX k caps wide es old.load.now o.placing e may)
+        ∙ ap records_of (sym now_is))
+        (stand_more k caps es e (records_of old.load.now)
+        (placed_count SIZE_MAX k caps wide es old.load.now o.placing) o.places);
     filled = l.fills (map (λ (x : Entry). length x.1) es)
         (omega (arith, length-map es (λ (x : Entry). length x.1), o.same_count, few))
         (sizes_small caps es o.follow) o.filled

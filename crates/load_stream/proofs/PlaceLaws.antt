@@ -2,7 +2,7 @@
 use Rattle.std.specs.Prelude.{◌≡◌, ℕ, ◌+◌, ◌<◌, ◌≤◌, nat_lt, true, List, [], ◌∷◌, ◌++◌, length, map, slice_index, sum_by, Option, Some, None, refl}
 use Rattle.std.proofs.Common.{arith, sym, ap, ◌∙◌, subst, inl, inr}
 use Rattle.std.proofs.lemmas.Bool.{cases_eq, cases_lt, cond-true, lt-ltb}
-use Rattle.std.proofs.lemmas.List.{map-append}
+use Rattle.std.proofs.lemmas.List.{length-map, map-append}
 use Rattle.std.proofs.lemmas.List.Sums.{sum_by_push}
 use Rattle.std.specs.Ordering.{is_lt, ordering_reverse}
 use Rattle.std.specs.FinMap as fin
@@ -10,6 +10,7 @@ use Rattle.std.specs.declared.cmp.Ordering.TheVariants.{Less}
 use Rattle.size_class.specs.Classes.{class_of, width}
 use Rattle.size_class.proofs.ClassLaws.{class_below}
 use Rattle.slot_codec.specs.Names.{name_cmp}
+use Rattle.slot_codec.specs.declared.codec.Record.{Record}
 use Rattle.map_model.proofs.MapLaws.{name_order, same_name-itself}
 use Rattle.map_model.specs.Weights.{Entry, same_name}
 use Rattle.segment_layout.specs.Shapes.{start_of}
@@ -17,7 +18,8 @@ use Rattle.segment_layout.proofs.BalanceLaws.{bytes_in, bytes_in-same}
 use Rattle.segment_layout.proofs.BookLaws.{volumes_of_sizes-index}
 use Rattle.table_rules.specs.Tables.{Apart}
 use Rattle.extent_table.specs.declared.spot.Spot.{Spot}
-use Rattle.extent_table.specs.Extents.{Spots, record_of}
+use Rattle.extent_table.specs.Extents.{Spots, record_of, records_of}
+use Rattle.extent_table.proofs.ExtentLaws.{records_of-all}
 use Rattle.placement_model.proofs.EnterLaws.{inserted, turn}
 use Rattle.map_model.proofs.MapLaws.{entries-empty}
 use Rattle.placement_model.proofs.OrderLaws.{behind_all, entries-push}
@@ -57,6 +59,16 @@ module _ (size_max k : ℕ) (volumes : List ℕ) (wide : length volumes ≡ widt
     apart = λ a b s t is. let none : None ≡ Some s = sym (fin.get-empty name_cmp a) ∙ is in absurd cc;
     room = λ c. omega (arith, volumes_of_sizes-index [] c);
   }
+
+  -- there are as many records as objects
+  pub placed_count : (es : List Entry) (spots : Spots) → IsPlacing size_max k volumes es spots
+      → length (records_of spots) ≡ length es
+  placed_count es spots h =
+      ap length (records_of-all spots h.named)
+      ∙ length-map (fin.entries spots) record_of
+      ∙ sym (length-map (fin.entries spots) (λ (e : List ℕ × Spot). e.1.size))
+      ∙ ap length h.sizes
+      ∙ length-map es (λ (e : Entry). length e.1)
 
   -- one object more
   module _ (es : List Entry) (spots : Spots) (h : IsPlacing size_max k volumes es spots) (e : Entry)
@@ -98,6 +110,14 @@ module _ (size_max k : ℕ) (volumes : List ℕ) (wide : length volumes ≡ widt
     pub pushed : fin.entries after ≡ fin.entries spots ++ (e.0, spot) ∷ []
     pushed = entries-push spots e.0 spot
         (λ q s there. name_order.antisymm e.0 q ∙ ap ordering_reverse (below q s there))
+
+    -- its record is the last
+    pub records_more : records_of after ≡ records_of spots ++ record_of (e.0, spot) ∷ []
+    records_more =
+        records_of-all after (AreNamed-insert spots e.0 spot h.named may.named)
+        ∙ ap (map record_of) pushed
+        ∙ map-append record_of (fin.entries spots) ((e.0, spot) ∷ [])
+        ∙ ap (λ (rs : List Record). rs ++ record_of (e.0, spot) ∷ []) (sym (records_of-all spots h.named))
 
     -- a segment lies before a later one
     before_segment : (c d : ℕ) → c < d → d < width

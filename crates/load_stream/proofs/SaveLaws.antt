@@ -76,6 +76,7 @@ module _ (k names : ℕ) (caps : List ℕ) (e : Extents) (table : IsTable e) (fi
           (new_image_opens CLASSES SIZE_MAX at (rolled e.now e.digests) file image
           (rolled_table_is u h e table) valid saved same);
     };
+    same_records = refl;
     same_length = sym same.same_length;
   }
 

@@ -10,7 +10,7 @@ use Rattle.slot_codec.specs.Spelling.{head_len}
 use Rattle.slot_pair.specs.Formats.{IsNoStore}
 use Rattle.slot_pair.specs.Saves.{save_calls}
 use Rattle.map_model.specs.Maps.{Map}
-use Rattle.segment_layout.specs.Books.{book_end}
+use Rattle.segment_layout.specs.Books.{book_end, volumes}
 use Rattle.segment_layout.specs.Shapes.{end_of}
 use Rattle.dump_stream.specs.Dumps.{IsDumpOf}
 use Rattle.dump_stream.specs.Loading.{BeginsNone, BeginsWith, StopsAt}
@@ -18,6 +18,7 @@ use Rattle.dump_stream.specs.Placing.{laid_book}
 use Rattle.load_stream.specs.declared.fault.LoadFault.{LoadFault}
 use Rattle.load_stream.specs.declared.fault.LoadFault.TheVariants as why
 use Rattle.load_stream.specs.Saved.{OpensEmpty, OpensFor}
+use Rattle.load_stream.specs.Standing.{StandInOrder}
 use Rattle.load_stream.specs.Steps.{Passed, object_calls}
 use Rattle.load_stream.specs.Weights.{load_weight}
 
@@ -99,13 +100,14 @@ Judges (Err why.Source) = ⊥
 -- ---- the file
 
 -- An image opens to a map with its objects laid out at once and nothing in buffers, and the input is that
--- map's dump and was read to its end. It is made for this divisor and so many names, and ends with its
--- layout.
+-- map's dump and was read to its end. Each object stands behind the earlier ones of its class. The image is
+-- made for this divisor and so many names, and ends with its layout.
 pub record OpensDump (k names : ℕ) (x : Passed) (image : List ℕ) : Type 0 where
   pub objects : Map
   pub dump : IsTrue x.tells → IsDumpOf CLASSES SIZE_MAX objects x.before
   pub ended : IsTrue x.tells → x.left ≡ []
   pub opens : OpensFor k names image objects (laid_book objects)
+  pub places : StandInOrder k (volumes objects) (fin.entries objects) opens.table.records
   pub ends : length image ≡ head_len names + book_end k (laid_book objects)
 
 -- an image is no store, or opens to the empty map, or to the map of which the input is the dump

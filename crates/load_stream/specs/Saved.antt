@@ -17,7 +17,7 @@ use Rattle.segment_layout.specs.Books.{Book}
 use Rattle.segment_layout.specs.Layouts.{caps_of, divisor_of, grid_of}
 use Rattle.segment_layout.specs.Shapes.{end_of}
 use Rattle.table_rules.specs.Opening.{OpensBy}
-use Rattle.extent_table.specs.Extents.{Extents}
+use Rattle.extent_table.specs.Extents.{Extents, records_of}
 use Rattle.placement_model.specs.Reads.{read_at}
 use Rattle.dump_stream.specs.Heads.{volumes_of_head}
 use Rattle.dump_stream.specs.Dumps.{objects_text}
@@ -26,6 +26,7 @@ use Rattle.dump_stream.specs.Placing.{IsPlacing}
 use Rattle.load_stream.specs.declared.fault.LoadFault.{LoadFault}
 use Rattle.load_stream.specs.declared.fault.LoadFault.TheVariants as why
 use Rattle.load_stream.specs.declared.plan.Plan.{Plan}
+use Rattle.load_stream.specs.Standing.{StandInOrder}
 use Rattle.load_stream.specs.Steps.{Passed, object_calls}
 
 -- the book of a store without names
@@ -49,9 +50,10 @@ pub record OpensFor (k names : ℕ) (image : List ℕ) (m : Map) (b : Book) : Ty
 abbrev pub OpensEmpty : ℕ → ℕ → List ℕ → Type 0
 OpensEmpty k names image = OpensFor k names image fin.empty empty_book
 
--- an image opens to what a file gives at the places of a table, and is as long as the file
+-- an image opens to what a file gives at the places of a table, by that table, and is as long as the file
 pub record OpensLaid (k names : ℕ) (caps : List ℕ) (e : Extents) (file image : List ℕ) : Type 0 where
   pub opens : OpensFor k names image (read_at (head_len names) file e.now) (laid_with caps)
+  pub same_records : opens.table.records ≡ records_of e.now
   pub same_length : length image ≡ length file
 
 -- The objects of a dump fill each class, stand where they go, and the file has the table of an empty store
@@ -84,11 +86,13 @@ pub record MapRead (p : Plan) (x : Passed) (m : Map) : Type 0 where
   pub whole : IsTrue x.tells → x.before ≡ objects_text (fin.entries m)
   pub ended : IsTrue x.tells → x.left ≡ []
 
--- an image opens to a map that was read, with nothing in buffers, and ends with its layout
+-- An image opens to a map that was read, with nothing in buffers and each object behind the earlier ones of
+-- its class, and ends with its layout.
 pub record OpensRead (k names : ℕ) (p : Plan) (x : Passed) (image : List ℕ) : Type 0 where
   pub objects : Map
   pub read : MapRead p x objects
   pub opens : OpensFor k names image objects (laid_with (caps_of p.layout))
+  pub places : StandInOrder k (caps_of p.layout) (fin.entries objects) opens.table.records
   pub ends : length image ≡ head_len names + end_of k (caps_of p.layout)
 
 -- The objects of a dump stop at this number, from 1. All before it may stand there. It is due and isn't

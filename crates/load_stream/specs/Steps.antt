@@ -15,7 +15,7 @@ use Rattle.segment_layout.specs.Books.{volumes_of_sizes}
 use Rattle.segment_layout.specs.Layouts.{caps_of, divisor_of}
 use Rattle.segment_layout.specs.Shapes.{end_of}
 use Rattle.extent_table.specs.declared.spot.Spot.{Spot}
-use Rattle.extent_table.specs.Extents.{IsTable}
+use Rattle.extent_table.specs.Extents.{IsTable, records_of}
 use Rattle.placement_model.specs.Orders.{IsUpTo}
 use Rattle.placement_model.specs.Reads.{read_at}
 use Rattle.data_area.specs.Pieces.{HasMade, pieces}
@@ -25,6 +25,7 @@ use Rattle.dump_stream.specs.Dumping.{AreSizes}
 use Rattle.dump_stream.specs.Placing.{IsPlacing, spot_at}
 use Rattle.load_stream.specs.declared.plan.Plan.{Plan}
 use Rattle.load_stream.specs.declared.plan.SoFar.{SoFar}
+use Rattle.load_stream.specs.Standing.{StandInOrder}
 use Rattle.load_stream.specs.Weights.{objects_weight, write_weight}
 
 -- with an object of this size, its class has no more bytes than its volume
@@ -120,12 +121,13 @@ abbrev pub object_calls : List Entry → ℕ
 object_calls es = sum_by (λ e. pieces 65536 (length e.1)) es
 
 -- Of a dump the first objects were read, so many. Each may stand behind those before it, they stand where
--- they go, and the file gives them there.
+-- they go, one behind another, and the file gives them there.
 pub record LoadsTo (p : Plan) (now : SoFar) (x : Passed) (count : ℕ) (first state : State) : Type 0 where
   pub objects : List Entry
   pub same_count : length objects ≡ count
   pub follow : AllFollow SIZE_MAX (caps_of p.layout) objects
   pub placing : IsPlacing SIZE_MAX (divisor_of p.layout) (caps_of p.layout) objects now.load.now
+  pub places : StandInOrder (divisor_of p.layout) (caps_of p.layout) objects (records_of now.load.now)
   pub filled : cells_of now.filled ≡ filled_by objects
   pub last : now.last ≡ last_name objects
   pub whole : IsTrue x.tells → x.before ≡ objects_text objects ++ x.left
