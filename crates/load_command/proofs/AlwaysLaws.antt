@@ -156,6 +156,7 @@ module _ (k names : ℕ) (old new : State) (out put after : SinkState) (from res
     puts = puts_out;
     untouched = is.untouched;
     file = is.file;
+    past = is.past;
     crash = is.crash;
     loaded = is.loaded;
     due = due_where;

@@ -85,6 +85,7 @@ module _ (k names : ℕ) (a b : State) (from rest : SourceState)
         puts = puts;
         untouched = λ no. absurd no;
         file = λ t none. (by.left t).file;
+        past = λ t none. (by.left t).past;
         crash = λ t none rests. (by.left t).images (rests_empty a none rests);
         loaded = λ t done. has_loaded by t;
         no_turn_back = by.frame.no_turn_back;
@@ -119,6 +120,7 @@ module _ (k names : ℕ) (a b : State) (from rest : SourceState)
         puts = puts;
         untouched = λ no. absurd no;
         file = λ t none. (by.left t).file;
+        past = λ t none. (by.left t).past;
         crash = λ t none rests. (by.left t).images (rests_empty a none rests);
         loaded = λ t done. has_loaded by t;
         no_turn_back = by.frame.no_turn_back;
@@ -163,6 +165,7 @@ module _ (k names : ℕ) (a b : State) (from rest : SourceState)
     puts = λ t. nothing_of o f;
     untouched = λ is. untouched (by.early (early_of f is));
     file = λ t none. file_of k names (read_of from rest) b.file f (by.left t).file;
+    past = λ t none. (by.left t).past;
     crash = λ t none rests. (by.left t).images (rests_empty a none rests);
     loaded = λ t done. absurd (undone_of f done);
     no_turn_back = by.frame.no_turn_back;

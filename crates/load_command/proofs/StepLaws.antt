@@ -48,6 +48,8 @@ module _ (k names : ℕ) (a b : State) (same : Untouched a b) where
     puts = is.puts;
     untouched = λ kept. untouched_then same (is.untouched kept);
     file = λ told none. is.file (here told) (omega (arith, ap length (same.same_file told), none));
+    past = λ told none more. is.past (here told) (omega (arith, ap length (same.same_file told), none))
+        (omega (arith, more, same.same_turn));
     crash = λ told none rests. Leaves-trans
         (Leaves-weaken (IsLoadImage k names (read_of from rest))
         (none_left k names (read_of from rest) a none rests) same.since)
@@ -102,6 +104,7 @@ module _ (k names : ℕ) (a b : State) (same : Untouched a b) where
       puts = λ told. refl;
       untouched = λ no. absurd no;
       file = λ told none. inl (short_is_none b.file (omega (arith, ap length (same.same_file told), none)));
+      past = λ told none more. absurd (omega (arith, more, same.same_turn));
       crash = crash_none;
       loaded = λ told no. absurd no;
       no_turn_back = omega (arith, same.same_turn);

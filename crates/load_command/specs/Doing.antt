@@ -1,11 +1,11 @@
 -- What the steps of a load say of the devices, before its line is put.
-use Rattle.std.specs.Prelude.{◌≡◌, ℕ, ◌≤◌, length, Result, Ok, Err, IsTrue}
+use Rattle.std.specs.Prelude.{◌≡◌, ℕ, ◌+◌, ◌<◌, ◌≤◌, length, Result, Ok, Err, IsTrue}
 use Rattle.disk_face.specs.Devices.{Devices}
 use Rattle.disk_face.specs.Frames.{Untouched}
 use Rattle.disk_face.specs.Moments.{Leaves, Rests}
 use Rattle.disk_face.specs.Streams.{SourceState}
 use Rattle.slot_pair.specs.Finding.{HasDiskCause}
-use Rattle.load_stream.specs.Loaded.{IsLoadImage}
+use Rattle.load_stream.specs.Loaded.{IsEmptyOrDump, IsLoadImage}
 use Rattle.load_stream.specs.declared.fault.LoadFault.{LoadFault}
 use Rattle.load_stream.specs.declared.fault.LoadFault.TheVariants as why
 use Rattle.command_face.specs.Layers.{HasCausesAt}
@@ -37,6 +37,8 @@ pub record IsLoading (k names : ℕ) (old new : Devices) (from rest : SourceStat
   pub untouched : LeavesAsItWas end → Untouched old.disk new.disk
   pub file : IsTrue old.disk.tells → length old.disk.file ≡ 0
       → LeavesFile k names (read_of from rest) new.disk.file end
+  pub past : IsTrue old.disk.tells → length old.disk.file ≡ 0 → old.disk.turn + 10 < new.disk.turn
+      → IsEmptyOrDump k names (read_of from rest) new.disk.file
   pub crash : IsTrue old.disk.tells → length old.disk.file ≡ 0 → Rests old.disk
       → Leaves old.disk new.disk (IsLoadImage k names (read_of from rest))
   pub loaded : IsTrue from.tells → IsDone end

@@ -1,5 +1,5 @@
 -- What `load` does to a file: how it ends, what it leaves, and what a crash leaves meanwhile.
-use Rattle.std.specs.Prelude.{◌≡◌, ◌⊎◌, ℕ, ◌≤◌, ◌==◌, ◌||◌, Bool, true, List, [], length, Result, IsTrue}
+use Rattle.std.specs.Prelude.{◌≡◌, ◌⊎◌, ℕ, ◌+◌, ◌<◌, ◌≤◌, ◌==◌, ◌||◌, Bool, true, List, [], length, Result, IsTrue}
 use Rattle.std.specs.FinMap as fin
 use Rattle.disk_face.specs.Counts.{IsCalm, Rose, counted}
 use Rattle.disk_face.specs.Devices.{Devices}
@@ -11,7 +11,7 @@ use Rattle.size_class.specs.declared.TheConstants.{CLASSES, SIZE_MAX}
 use Rattle.map_model.specs.Maps.{Map}
 use Rattle.dump_stream.specs.Dumps.{IsDumpOf}
 use Rattle.dump_stream.specs.Placing.{laid_book}
-use Rattle.load_stream.specs.Loaded.{IsLoadImage, load_calls}
+use Rattle.load_stream.specs.Loaded.{IsEmptyOrDump, IsLoadImage, load_calls}
 use Rattle.load_stream.specs.Saved.{OpensFor}
 use Rattle.command_face.specs.Layers.{HasCauses}
 use Rattle.command_face.specs.Outcomes.{PutsLine, PutsOut, status_at}
@@ -36,8 +36,9 @@ pub record HasLoaded (k names : ℕ) (input left : List ℕ) (old new : State) :
 
 -- What a load of a file does, with this divisor of its buffers and room for so many names. The length of the
 -- file decides first, and then the input; the end says of both what is so. A file of length 0 is then what
--- the end says, and where it rested each image left since is no store, or opens to the empty map or to the
--- map of the dump. A dump for which there is room is loaded where no device failed, but for want of memory.
+-- the end says, and past the ten calls of its format a store. Where it rested, each image left since is no
+-- store, or opens to the empty map or to the map of the dump. A dump for which there is room is loaded where
+-- no device failed, but for want of memory.
 pub record LoadPromise (k names status : ℕ) (old new : Devices) (from rest : SourceState) : Type 0 where
   pub end : Result (Unit {0}) StopReason
   pub same_status : status ≡ status_at end
@@ -48,6 +49,8 @@ pub record LoadPromise (k names status : ℕ) (old new : Devices) (from rest : S
   pub untouched : LeavesAsItWas end → Untouched old.disk new.disk
   pub file : IsTrue old.disk.tells → length old.disk.file ≡ 0
       → LeavesFile k names (read_of from rest) new.disk.file end
+  pub past : IsTrue old.disk.tells → length old.disk.file ≡ 0 → old.disk.turn + 10 < new.disk.turn
+      → IsEmptyOrDump k names (read_of from rest) new.disk.file
   pub crash : IsTrue old.disk.tells → length old.disk.file ≡ 0 → Rests old.disk
       → Leaves old.disk new.disk (IsLoadImage k names (read_of from rest))
   pub loaded : IsTrue from.tells → IsDone end

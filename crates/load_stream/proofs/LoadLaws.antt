@@ -23,8 +23,8 @@ use Rattle.load_stream.specs.declared.fault.LoadFault.{LoadFault}
 use Rattle.load_stream.specs.declared.fault.LoadFault.TheVariants as why
 use Rattle.load_stream.specs.declared.plan.Plan.{Plan}
 use Rattle.load_stream.specs.Faults.{IsFirstFault, IsLineOrDevice}
-use Rattle.load_stream.specs.Loaded.{AnswersLoad, AsksLoaded, AsksToLoad, IsLoadImage, LeavesLoaded, LoadsWhole, OpensDump, TellsFew, TellsTooMany}
-use Rattle.load_stream.specs.Saved.{IsNoneOrRead, IsPlanFor, LeavesNew, LeavesRead, OpensEmpty, OpensFor, OpensRead, ReadsBody, StopsBody, laid_with}
+use Rattle.load_stream.specs.Loaded.{AnswersLoad, AsksLoaded, AsksToLoad, IsEmptyOrDump, IsLoadImage, LeavesLoaded, LoadsWhole, OpensDump, TellsFew, TellsTooMany}
+use Rattle.load_stream.specs.Saved.{IsEmptyOrRead, IsNoneOrRead, IsPlanFor, LeavesNew, LeavesRead, OpensEmpty, OpensFor, OpensRead, ReadsBody, StopsBody, laid_with}
 use Rattle.load_stream.specs.Standing.{StandInOrder}
 use Rattle.load_stream.specs.Steps.{Passed, object_calls, passed}
 use Rattle.load_stream.specs.Weights.{load_weight}
@@ -55,6 +55,16 @@ leaves_new k names p x file (Err (why.TooMany n)) leaves = leaves
 leaves_new k names p x file (Err why.NoMemory) leaves = leaves
 leaves_new k names p x file (Err why.Disk) leaves = inr leaves
 leaves_new k names p x file (Err why.Source) leaves = leaves
+
+-- a load that ended past the format leaves a store
+pub leaves_store : (k names : ℕ) (p : Plan) (x : Passed) (file : List ℕ) (result : Result Unit LoadFault)
+    → LeavesRead k names p x file result → IsEmptyOrRead k names p x file
+leaves_store k names p x file (Ok done) leaves = inr leaves
+leaves_store k names p x file (Err (why.Line n)) leaves = inl leaves
+leaves_store k names p x file (Err (why.TooMany n)) leaves = inl leaves
+leaves_store k names p x file (Err why.NoMemory) leaves = inl leaves
+leaves_store k names p x file (Err why.Disk) leaves = leaves
+leaves_store k names p x file (Err why.Source) leaves = inl leaves
 
 -- ---- what was read
 
@@ -133,11 +143,15 @@ module _ (k names : ℕ) (p : Plan) (plan : IsPlanFor k names p)
           ends = o.ends ∙ ap (λ (vs : List ℕ). head_len names + end_of k vs) (sym vols);
         }
 
+    pub store_loaded : (image : List ℕ) → IsEmptyOrRead k names p (passed heard mid (ahead ++ left)) image
+        → IsEmptyOrDump k names (passed tells before left) image
+    store_loaded image (inl empty) = inl empty
+    store_loaded image (inr read) = inr (opened image read)
+
     pub image_loaded : (image : List ℕ) → IsNoneOrRead k names p (passed heard mid (ahead ++ left)) image
         → IsLoadImage k names (passed tells before left) image
     image_loaded image (inl none) = inl none
-    image_loaded image (inr (inl empty)) = inr (inl empty)
-    image_loaded image (inr (inr read)) = inr (inr (opened image read))
+    image_loaded image (inr store) = inr (store_loaded image store)
 
     pub file_loaded : (file : List ℕ) (result : Result Unit LoadFault) → IsLineOrDevice result
         → LeavesNew k names p (passed heard mid (ahead ++ left)) file result

@@ -110,9 +110,13 @@ pub record OpensDump (k names : ℕ) (x : Passed) (image : List ℕ) : Type 0 wh
   pub places : StandInOrder k (volumes objects) (fin.entries objects) opens.table.records
   pub ends : length image ≡ head_len names + book_end k (laid_book objects)
 
+-- an image opens to the empty map, or to the map of which the input is the dump
+abbrev pub IsEmptyOrDump : ℕ → ℕ → Passed → List ℕ → Type 0
+IsEmptyOrDump k names x image = OpensEmpty k names image ⊎ OpensDump k names x image
+
 -- an image is no store, or opens to the empty map, or to the map of which the input is the dump
 abbrev pub IsLoadImage : ℕ → ℕ → Passed → List ℕ → Type 0
-IsLoadImage k names x image = IsNoStore image ⊎ (OpensEmpty k names image ⊎ OpensDump k names x image)
+IsLoadImage k names x image = IsNoStore image ⊎ IsEmptyOrDump k names x image
 
 -- What the file is once a load ended. It has no bytes where the first line was refused, or memory was, and
 -- past the format it opens to the empty map, or where the disk failed to the map of the dump.
@@ -125,10 +129,11 @@ LeavesLoaded k names x file (Err why.NoMemory) = length file ≡ 0
 LeavesLoaded k names x file (Err why.Disk) = IsLoadImage k names x file
 LeavesLoaded k names x file (Err why.Source) = (length file ≡ 0) ⊎ OpensEmpty k names file
 
--- What the file is at the end of a load, and each image that a crash may leave meanwhile. Done, the file is
--- the one image that is left.
+-- What the file is at the end of a load, and each image that a crash may leave meanwhile. Past the ten calls
+-- of the format the file is a store. Done, it is the one image that is left.
 pub record LeavesLoad (k names : ℕ) (x : Passed) (first now : State) (result : Result Unit LoadFault)
     : Type 0 where
   pub file : LeavesLoaded k names x now.file result
+  pub past : first.turn + 10 < now.turn → IsEmptyOrDump k names x now.file
   pub images : Only [] first.may_leave → Leaves first now (IsLoadImage k names x)
   pub rests : OnOk result (Rests now)

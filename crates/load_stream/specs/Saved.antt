@@ -114,9 +114,13 @@ LeavesRead k names p x file (Ok done) = OpensRead k names p x file
 LeavesRead k names p x file (Err why.Disk) = OpensEmpty k names file ⊎ OpensRead k names p x file
 LeavesRead k names p x file (Err _) = OpensEmpty k names file
 
+-- an image opens to the empty map, or to a map that was read
+abbrev pub IsEmptyOrRead : ℕ → ℕ → Plan → Passed → List ℕ → Type 0
+IsEmptyOrRead k names p x image = OpensEmpty k names image ⊎ OpensRead k names p x image
+
 -- an image is no store, or opens to the empty map, or to a map that was read
 abbrev pub IsNoneOrRead : ℕ → ℕ → Plan → Passed → List ℕ → Type 0
-IsNoneOrRead k names p x image = IsNoStore image ⊎ (OpensEmpty k names image ⊎ OpensRead k names p x image)
+IsNoneOrRead k names p x image = IsNoStore image ⊎ IsEmptyOrRead k names p x image
 
 -- The same of a load that began with the format, where the disk may have failed too.
 abbrev pub LeavesNew : ℕ → ℕ → Plan → Passed → List ℕ → Result Unit LoadFault → Type 0

@@ -1,11 +1,11 @@
 //! Loading a dump into a file that is empty.
-ghost use Rattle.std.specs.Prelude.{◌≡◌, ◌+◌, ◌++◌, ℕ, [], Err, IsTrue, OnOk, length, sum};
+ghost use Rattle.std.specs.Prelude.{◌≡◌, ◌+◌, ◌<◌, ◌++◌, ℕ, [], Err, IsTrue, OnOk, length, sum};
 ghost use Rattle.disk_face.specs.{Frames.{Asks, Unchanged}, Moments.{Leaves, Only, Rests}, Writes.{KeepsDisk}};
 ghost use Rattle.slot_codec.specs.Readable.{IsSuperBlock};
 ghost use Rattle.slot_pair.specs.Formats.{block_for};
 ghost use Rattle.segment_layout.specs.{Layouts.{caps_of, divisor_of}, Shapes.{end_of}};
 ghost use Rattle.load_stream.specs.declared.fault.LoadFault.TheVariants as why;
-ghost use Rattle.load_stream.specs.{Causes.{HasCauses}, Faults.{IsEarly, IsLineOrDevice}, Loaded.{AnswersLoad, AsksLoaded, LeavesLoad, LoadsWhole}, Saved.{IsNoneOrRead, IsPlanFor, LeavesNew, ReadsBody, StopsBody}, Steps.{IsStart, passed}, Weights.{load_weight}};
+ghost use Rattle.load_stream.specs.{Causes.{HasCauses}, Faults.{IsEarly, IsLineOrDevice}, Loaded.{AnswersLoad, AsksLoaded, LeavesLoad, LoadsWhole}, Saved.{IsEmptyOrRead, IsNoneOrRead, IsPlanFor, LeavesNew, ReadsBody, StopsBody}, Steps.{IsStart, passed}, Weights.{load_weight}};
 
 use crate::LoadFault;
 use crate::begin::{read_plan, start};
@@ -78,6 +78,10 @@ fn fill_new<D: Disk, I: Source>(
     ensures file { IsTrue (D.state disk.old).tells → LeavesNew block.k block.names plan.now
         (passed (I.state input.old).tells (ahead.old ++ (I.state input.old).left)
         (ahead.new ++ (I.state input.new).left)) (D.state disk.new).file result }
+    ensures past { IsTrue (D.state disk.old).tells → (D.state disk.old).turn + 10 < (D.state disk.new).turn
+        → IsEmptyOrRead block.k block.names plan.now
+        (passed (I.state input.old).tells (ahead.old ++ (I.state input.old).left)
+        (ahead.new ++ (I.state input.new).left)) (D.state disk.new).file }
     ensures images { IsTrue (D.state disk.old).tells → Only [] (D.state disk.old).may_leave
         → Leaves (D.state disk.old) (D.state disk.new) (IsNoneOrRead block.k block.names plan.now
         (passed (I.state input.old).tells (ahead.old ++ (I.state input.old).left)

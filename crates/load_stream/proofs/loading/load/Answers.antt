@@ -6,7 +6,7 @@ use Rattle.dump_stream.specs.Loading.{BeginsNone}
 use Rattle.load_stream.specs.declared.fault.LoadFault.TheVariants as why
 use Rattle.load_stream.specs.declared.plan.Plan.{Plan}
 use Rattle.load_stream.specs.Loaded.{TellsTooMany}
-use Rattle.load_stream.proofs.LoadLaws.{answers_body, answers_first, asks_body, asks_first, file_loaded, image_loaded, tells_few, whole_body}
+use Rattle.load_stream.proofs.LoadLaws.{answers_body, answers_first, asks_body, asks_first, file_loaded, image_loaded, store_loaded, tells_few, whole_body}
 use Rattle.load_stream.proofs.loading.load.Goals as goal
 
 pub returns-in_err-plan-clause-answers : goal.returns-in_err-plan-clause-answers
@@ -66,6 +66,10 @@ returns-clause-left g c told =
           (i c.args.input.now).tells (i c.read_plan.new.input).tells c.read_plan.ensures.cause.told before mid
           line c.fill_new.new.ahead (i c.fill_new.new.input).left (g.D.Disk.state c.fill_new.new.disk).file
           c.fill_new.result c.fill_new.ensures.only (c.fill_new.ensures.file told);
+      past = λ more. store_loaded c.args.k c.args.names p c.in_ok-plan.ensures.plan c.in_ok-plan.ensures.head
+          (i c.args.input.now).tells (i c.read_plan.new.input).tells c.read_plan.ensures.cause.told before mid
+          line c.fill_new.new.ahead (i c.fill_new.new.input).left (g.D.Disk.state c.fill_new.new.disk).file
+          (c.fill_new.ensures.past told more);
       images = λ only. Leaves-weaken _ (image_loaded c.args.k c.args.names p c.in_ok-plan.ensures.plan
           c.in_ok-plan.ensures.head (i c.args.input.now).tells (i c.read_plan.new.input).tells
           c.read_plan.ensures.cause.told before mid line c.fill_new.new.ahead (i c.fill_new.new.input).left)
