@@ -20,7 +20,7 @@ use Rattle.placement_model.specs.Reads.{AreNamed, EndWithin, object_at, read_at}
 use Rattle.placement_model.proofs.EnterLaws.{by_name}
 use Rattle.placement_model.proofs.OpenedLaws.{record_within}
 use Rattle.placement_model.proofs.ReadLaws.{get-read_at}
-use Rattle.reopen.specs.Loads.{IsLoadedFrom, KeepsLoaded, digests_loaded, table_seen}
+use Rattle.reopen.specs.Loads.{IsReadIn, KeepsLoadedIn, digests_loaded, table_seen}
 use Rattle.reopen.specs.declared.state.Loaded.{Loaded}
 use Rattle.dump_stream.specs.Heads.{head_line}
 use Rattle.dump_stream.specs.Dumps.{dump_line}
@@ -63,19 +63,22 @@ line_is C base file line spots named within is =
     ∙ ap (λ (vs : List ℕ). head_line C (fin.len (read_at base file spots)) vs ++ codes "\n")
     (sym (volumes_of_file base file spots named within))
 
--- ---- a table that was loaded
+-- ---- a table that was loaded, of a file whose slots have logs or have none
 
-pub loaded_sizes : {C : ℕ} (x : Loaded C) → KeepsLoaded x → AreSizes SIZE_MAX (sizes_at x.table.now)
-loaded_sizes {C} x keeps = are_sizes SIZE_MAX (fin.entries x.table.now) (λ i e is.
+pub loaded_sizes : {C : ℕ} {logged : Bool} (x : Loaded C) → KeepsLoadedIn logged x
+    → AreSizes SIZE_MAX (sizes_at x.table.now)
+loaded_sizes x keeps = are_sizes SIZE_MAX (fin.entries x.table.now) (λ i e is.
     by_name (λ (r : Record). r.size ≤ SIZE_MAX) x.table.now keeps.is_table.now_named
     keeps.valid.0.places.sizes e.0 e.1 (spot_of_entry x.table.now i e.0 e.1 is))
 
-pub loaded_within : {C : ℕ} (file : List ℕ) (x : Loaded C) → KeepsLoaded x → IsLoadedFrom file x
+-- each object ends within the file whose table was read
+pub loaded_within : {C : ℕ} {logged by_mark : Bool} (file : List ℕ) (x : Loaded C) → KeepsLoadedIn logged x
+    → IsReadIn by_mark file x
     → EndWithin (head_len x.block.names) file x.table.now
 loaded_within {C} file x keeps from name s is =
     let base = head_len x.block.names in
     let within = by_name (λ (r : Record). base + end_of_record r ≤ length file) x.table.now
     keeps.is_table.now_named
     (record_within C SIZE_MAX (table_seen x (digests_loaded x)) file (read_at base file x.table.now)
-    _ from.opens) name s is in
+    _ from) name s is in
     omega (arith, within)

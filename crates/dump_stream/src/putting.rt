@@ -4,7 +4,7 @@ ghost use Rattle.disk_face.specs.Frames.{Unchanged};
 ghost use Rattle.slot_codec.specs.Spelling.{has_digests, head_len};
 ghost use Rattle.extent_table.specs.Extents.{IsTable, digests_seen};
 ghost use Rattle.placement_model.specs.Reads.{EndWithin, read_at};
-ghost use Rattle.reopen.specs.Loads.{IsLoadedFrom, KeepsLoaded, unboxed};
+ghost use Rattle.reopen.specs.Loads.{IsLoadedFrom, IsReadAs, KeepsLoaded, KeepsRead, unboxed};
 ghost use Rattle.dump_stream.specs.Dumping.{AreSizes, CanClass, DumpsLoaded, HasCauses, PutsDump, PutsSound, digest_of, read_entries, sizes_at};
 
 use crate::gathering::{gather_object, put_whole};
@@ -57,7 +57,8 @@ pub fn dump<D: Disk, O: Sink, const C: usize>(
     )
 }
 
-/// Puts the dump as `dump` does, of a state whose header and layout stand in memory of their own.
+/// Puts the dump as `dump` does, of a state whose header and layout stand in memory of their own, also of a
+/// file whose slots have logs.
 pub fn dump_boxed<D: Disk, O: Sink, const C: usize>(
     disk: &mut D,
     loaded: &BoxedLoaded<C>,
@@ -67,9 +68,9 @@ pub fn dump_boxed<D: Disk, O: Sink, const C: usize>(
     requires ready { IsTrue (D.state disk.old).is_ready }
     requires classes { CanClass C }
     requires some { 0 < length buf.old }
-    requires loaded { KeepsLoaded (unboxed loaded.now) }
+    requires loaded { KeepsRead (unboxed loaded.now) }
     requires from { IsTrue (D.state disk.old).tells
-        → IsLoadedFrom (D.state disk.old).file (unboxed loaded.now) }
+        → IsReadAs (D.state disk.old).file (unboxed loaded.now) }
     ensures { DumpsLoaded (unboxed loaded.now) (D.state disk.old) (D.state disk.new) (O.state output.old)
         (O.state output.new) result }
 {

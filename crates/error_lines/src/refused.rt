@@ -122,4 +122,6 @@ const FAULTS: &[(&str, &str)] = &[
     ("8", " hold a name that isn't greater than the one before"),
     ("9", " hold a sequence that is too large"),
     ("10", " hold a number that is out of range"),
+    ("11", " hold an entry that reaches past the end of its log"),
+    ("12", " hold an entry of an object that isn't there"),
 ];

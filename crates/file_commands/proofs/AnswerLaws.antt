@@ -1,11 +1,18 @@
 -- How a layer answers where it stops before it puts any byte.
-use Rattle.std.specs.Prelude.{◌≡◌, ◌≢◌, ℕ, List, [], Result, Ok, Err, OnErr, IsTrue, refl}
+use Rattle.std.specs.Prelude.{◌≡◌, ◌≢◌, ℕ, Bool, List, [], Result, Ok, Err, IfErr, OnErr, IsTrue, refl}
 use Rattle.std.proofs.Common.{arith, ap, sym, ◌∙◌, subst, inl, inr, append-nil}
 use Rattle.disk_face.specs.Streams.{Puts, SinkState}
+use Rattle.size_class.specs.declared.TheConstants.{CLASSES}
+use Rattle.slot_codec.specs.Choice as choice
+use Rattle.slot_pair.specs.declared.find.SlotFault.TheVariants as slot
+use Rattle.reopen.specs.Refusals.{RefusesToRead}
+use Rattle.reopen.specs.declared.fault.OpenFault.{OpenFault}
+use Rattle.reopen.specs.declared.fault.OpenFault.TheVariants as opening
+use Rattle.command_face.specs.Refusing.{IsRefusedIn, stop_of}
 use Rattle.command_face.specs.declared.stop.StopReason.{StopReason}
 use Rattle.command_face.specs.declared.stop.StopReason.TheVariants as stop
 use Rattle.file_commands.specs.Getting.{StopsAs}
-use Rattle.command_face.specs.Layers.{Answers}
+use Rattle.command_face.specs.Layers.{Answers, IsCommandReason, PutsNone}
 use Rattle.command_face.specs.Outcomes.{EndsBy}
 
 -- a layer stops as it is to, or for want of a device or of memory, before it puts any
@@ -42,6 +49,19 @@ put_answer answer bytes old new end is only puts = record {
     ends_of (Ok x) sink = is
     ends_of (Err e) sink = subst (EndsBy answer bytes) (sym sink) is
 
+-- a layer that stops only where the sink failed has a reason of a command, and needn't have put nothing
+pub sink_plain : (end : Result (Unit {0}) StopReason) → OnErr end (end ≡ Err stop.Sink)
+    → IfErr end IsCommandReason
+sink_plain (Ok x) only = tt
+sink_plain (Err why) only =
+    let is : why ≡ stop.Sink = cc in
+    subst IsCommandReason (sym is) (λ e. absurd (cc), λ e. absurd (cc), λ n e. absurd (cc))
+
+pub sink_put : {O : Type 0} (old new : O) (end : Result (Unit {0}) StopReason)
+    → OnErr end (end ≡ Err stop.Sink) → PutsNone old new end
+sink_put old new (Ok x) only = tt
+sink_put old new (Err why) only = inr (inl cc)
+
 -- what answers one command answers another that allows more
 pub answers_more : (answer other : Result (List ℕ) StopReason → Type 0)
     → ((a : Result (List ℕ) StopReason) → answer a → other a) → (old new : SinkState)
@@ -68,6 +88,24 @@ pub stops_more : (answer other : Result (List ℕ) StopReason → Type 0)
 stops_more answer other more stop.Disk is = tt
 stops_more answer other more stop.NoMemory is = tt
 stops_more answer other more why is = more (Err why) is
+
+-- a file that isn't read stops a command by its first refusal, unless the disk or memory failed
+pub stops_unread : (logged : Bool) (file : List ℕ) (why : OpenFault) → RefusesToRead logged CLASSES file why
+    → StopsAs (IsRefusedIn logged file) (stop_of why)
+stops_unread logged file (opening.Slot slot.Disk) is = tt
+stops_unread logged file (opening.Slot slot.Short) is =
+    record { fault = opening.Slot slot.Short; first = (choice.too_short, is, refl); same = refl }
+stops_unread logged file (opening.Slot slot.Unformatted) is =
+    record { fault = opening.Slot slot.Unformatted; first = (choice.unformatted, is, refl); same = refl }
+stops_unread logged file (opening.Slot slot.NoGate) is =
+    record { fault = opening.Slot slot.NoGate; first = (choice.no_gate, is, refl); same = refl }
+stops_unread logged file (opening.Slot slot.SameSequence) is =
+    record { fault = opening.Slot slot.SameSequence; first = (choice.same_sequence, is, refl); same = refl }
+stops_unread logged file (opening.Slot (slot.Codec f at)) is =
+    record { fault = opening.Slot (slot.Codec f at); first = (choice.codec f at, is, refl); same = refl }
+stops_unread logged file (opening.Table broken) is =
+    record { fault = opening.Table broken; first = is; same = refl }
+stops_unread logged file opening.NoMemory is = tt
 
 -- want of memory stops any command before it puts any
 pub stopped_for_memory : (answer : Result (List ℕ) StopReason → Type 0) (state : SinkState) (why : StopReason)

@@ -13,20 +13,20 @@ use Rattle.segment_layout.specs.Books.{Book, with_digests}
 use Rattle.table_rules.specs.Opening.{placed_table}
 use Rattle.table_rules.specs.Tables.{book_of}
 use Rattle.placement_model.specs.Reads.{read_at}
-use Rattle.reopen.specs.Loads.{IsLoadedFrom, digests_loaded, table_seen}
+use Rattle.reopen.specs.Loads.{IsReadAs, digests_loaded, table_seen}
 use Rattle.reopen.specs.declared.state.Loaded.{Loaded}
 use Rattle.dump_stream.specs.Dumping.{PutsDump, sound_front}
 use Rattle.dump_stream.specs.Dumps.{dump_line, dump_text, objects_text}
 use Rattle.dump_stream.specs.declared.putting.DumpFault.TheVariants as fault
 use Rattle.command_face.specs.declared.stop.StopReason.{StopReason}
 use Rattle.command_face.specs.declared.stop.StopReason.TheVariants as stop
-use Rattle.command_face.specs.Refusing.{IsRefused}
+use Rattle.command_face.specs.Refusing.{IsNotRead}
 use Rattle.file_commands.specs.Getting.{StopsAs}
 use Rattle.file_commands.specs.Dumped.{Dumps, EndsDump, IsOfMap}
 
 -- ---- as its stream did
 
-module _ (file : List ℕ) (x : Loaded CLASSES) (from : IsLoadedFrom file x) (old new : SinkState) where
+module _ (file : List ℕ) (x : Loaded CLASSES) (from : IsReadAs file x) (old new : SinkState) where
   abbrev m : Map
   m = read_at (head_len x.block.names) file x.table.now
 
@@ -38,7 +38,7 @@ module _ (file : List ℕ) (x : Loaded CLASSES) (from : IsLoadedFrom file x) (ol
   of_map holds so = record {
     map = m;
     book = b;
-    opens = record { table = table_seen x (digests_loaded x); opens = from.opens };
+    reads = record { table = table_seen x (digests_loaded x); opens = from };
     so = so;
   }
 
@@ -103,14 +103,14 @@ dumps_none file state why other ends = record {
 }
 
 -- a file that isn't read shows no damaged object
-pub none_damaged : (file : List ℕ) (why : StopReason) → StopsAs (IsRefused file) why → why ≢ stop.Damaged
+pub none_damaged : (file : List ℕ) (why : StopReason) → StopsAs (IsNotRead file) why → why ≢ stop.Damaged
 none_damaged file why is same =
-    let refused = subst (StopsAs (IsRefused file)) same is in
+    let refused = subst (StopsAs (IsNotRead file)) same is in
     let bad = refused.same in absurd (cc)
 
 -- the file isn't read
 pub ends_unread : (file : List ℕ) (why : StopReason) → why ≢ stop.Sink → why ≢ stop.NoFile
-    → why ≢ stop.Damaged → StopsAs (IsRefused file) why → EndsDump file [] (Err why)
+    → why ≢ stop.Damaged → StopsAs (IsNotRead file) why → EndsDump file [] (Err why)
 ends_unread file stop.Disk sink gone damaged is = inr refl
 ends_unread file stop.Sink sink gone damaged is = absurd (sink refl)
 ends_unread file stop.NoFile sink gone damaged is = absurd (gone refl)

@@ -1,5 +1,5 @@
--- What the records of a file that opens have in common with its map.
-use Rattle.std.specs.Prelude.{◌≡◌, ℕ, suc, ◌+◌, ◌<◌, ◌≤◌, ◌&&◌, List, [], ◌∷◌, length, map, slice_index_or, sum_by, Option, Some, None, true, T, refl}
+-- What the records of a file that opens, or is read, have in common with its map.
+use Rattle.std.specs.Prelude.{◌≡◌, ℕ, suc, ◌+◌, ◌<◌, ◌≤◌, ◌&&◌, Bool, List, [], ◌∷◌, length, map, slice_index_or, sum_by, Option, Some, None, true, T, refl}
 use Rattle.std.proofs.Common.{◌∙◌, ap, arith, subst, sym}
 use Rattle.std.proofs.lemmas.List.{length-map}
 use Rattle.std.proofs.lemmas.List.Sums.{sum_by-cons}
@@ -11,12 +11,12 @@ use Rattle.byte_ranges.proofs.RangeLaws.{length-bytes_at}
 use Rattle.slot_codec.specs.Choice as choice
 use Rattle.slot_codec.specs.Spelling.{head_len}
 use Rattle.slot_codec.specs.declared.codec.Record.{Record}
-use Rattle.slot_codec.proofs.RecordsLaws.{table_rises}
+use Rattle.slot_codec.proofs.KeyedLaws.{table_rises_in}
 use Rattle.slot_codec.proofs.RollLaws.{RiseFrom, name_lt-trans}
 use Rattle.map_model.specs.Maps.{Map, name_cmp, volume}
 use Rattle.map_model.proofs.MapLaws.{name_order, names_differ}
 use Rattle.segment_layout.specs.Books.{Book}
-use Rattle.table_rules.specs.Opening.{OpensBy}
+use Rattle.table_rules.specs.Opening.{OpensIn}
 use Rattle.table_rules.specs.Tables.{end_of_record, map_of, no_record, size_sum}
 use Rattle.placement_model.proofs.OpenedLaws.{record_within}
 
@@ -63,10 +63,10 @@ module _ (base : ℕ) (file : List ℕ) where
     sizes_are rs (λ i low. within (suc i) (omega (arith, low))),
   )
 
-module _ (classes most : ℕ) (t : choice.SlotTable) (file : List ℕ) (m : Map) (b : Book)
-    (o : OpensBy classes most t file m b) where
+module _ (logged : Bool) (classes most : ℕ) (t : choice.SlotTable) (file : List ℕ) (m : Map) (b : Book)
+    (o : OpensIn logged classes most t file m b) where
   rise : RiseFrom None t.records
-  rise = table_rises file t o.read
+  rise = table_rises_in logged file t o.read
 
   entries : fin.entries m ≡ map (entry_of (head_len t.chosen.block.names) file) t.records
   entries = ap fin.entries o.same_map ∙ entries_are (head_len t.chosen.block.names) file t.records rise

@@ -1,4 +1,4 @@
--- The table of a file that was opened, as its texts tell it.
+-- The table of a file that was read, as its texts tell it.
 use Rattle.std.specs.Prelude.{◌≡◌, ℕ, List, ◌++◌, length, codes, slice_get, option_map, Some, Ok, refl}
 use Rattle.std.proofs.Common.{◌∙◌, ap, arith, sym, inl}
 use Rattle.std.proofs.lemmas.Grind.{common_steps}
@@ -17,7 +17,7 @@ use Rattle.extent_table.specs.Extents.{Extents, IsTable, record_of, records_of, 
 use Rattle.extent_table.proofs.ExtentLaws.{records_of-all}
 use Rattle.placement_model.specs.Reads.{read_at}
 use Rattle.placement_model.proofs.SpotSumLaws.{records_sum, volume_of-weights}
-use Rattle.reopen.specs.Loads.{IsLoadedFrom, KeepsLoaded, digests_loaded, table_seen}
+use Rattle.reopen.specs.Loads.{IsReadAs, KeepsRead, digests_loaded, table_seen}
 use Rattle.reopen.specs.declared.state.Loaded.{Loaded}
 use Rattle.command_face.specs.Lines.{numbered}
 use Rattle.file_commands.specs.Texts.{IsTold, check_text, data_of, kind_text}
@@ -52,7 +52,7 @@ count_of e table = ap length (records_of-all e.now table.now_named)
     ∙ length-map (fin.entries e.now) record_of
     ∙ sym (fin.len-entries e.now)
 
-pub records_count : (x : Loaded CLASSES) → KeepsLoaded x
+pub records_count : (x : Loaded CLASSES) → KeepsRead x
     → length (records_of x.table.now) ≡ fin.len x.table.now
 records_count x keeps = count_of x.table keeps.is_table
 
@@ -64,20 +64,20 @@ record_at e table n name s is = ap (λ rs. slice_get rs n) (records_of-all e.now
     ∙ slice_get-map record_of (fin.entries e.now) n
     ∙ ap (option_map record_of) is
 
-pub records_volume : (x : Loaded CLASSES) → KeepsLoaded x
+pub records_volume : (x : Loaded CLASSES) → KeepsRead x
     → size_sum (records_of x.table.now) ≡ volume_of x.table.now
 records_volume x keeps = records_sum (λ (r : Record). r.size) x.table.now keeps.is_table.now_named
     ∙ sym (volume_of-weights x.table.now)
 
 -- a text of the table that was read is the one that is to be told
 pub told_of : (text : choice.SlotTable → ℕ → List ℕ) (file : List ℕ) (x : Loaded CLASSES)
-    (from : IsLoadedFrom file x)
+    (from : IsReadAs file x)
     → IsTold text file (Ok (text (table_seen x (digests_loaded x)) (length file)))
 told_of text file x from = inl (record {
   table = table_seen x (digests_loaded x);
   map = read_at (head_len x.block.names) file x.table.now;
   book = with_digests (digests_loaded x)
       (book_of (placed_table CLASSES SIZE_MAX file (table_seen x (digests_loaded x))));
-  opens = from.opens;
+  reads = from;
   same = refl;
 })

@@ -5,18 +5,18 @@ use Rattle.disk_face.specs.Streams.{Puts, SinkState}
 use Rattle.size_class.specs.declared.TheConstants.{CLASSES, SIZE_MAX}
 use Rattle.map_model.specs.Maps.{Map}
 use Rattle.segment_layout.specs.Books.{Book}
-use Rattle.table_rules.specs.Opening.{Opens}
+use Rattle.table_rules.specs.Opening.{Reads}
 use Rattle.dump_stream.specs.Dumping.{AreSound, sound_front}
 use Rattle.dump_stream.specs.Dumps.{dump_line, dump_text, objects_text}
 use Rattle.command_face.specs.declared.stop.StopReason.{StopReason}
 use Rattle.command_face.specs.declared.stop.StopReason.TheVariants as stop
-use Rattle.command_face.specs.Refusing.{IsRefused}
+use Rattle.command_face.specs.Refusing.{IsNotRead}
 
--- The file opens, and this holds of its map and its book.
+-- The file is read by its mark, and this holds of its map and its book.
 pub record IsOfMap (file : List ℕ) (holds : Map → Book → Type 0) : Type 0 where
   pub map : Map
   pub book : Book
-  pub opens : Opens CLASSES SIZE_MAX file map book
+  pub reads : Reads CLASSES SIZE_MAX file map book
   pub so : holds map book
 
 -- no object of a map is damaged
@@ -46,7 +46,7 @@ EndsDump file bytes (Err stop.Sink) = IsDump file bytes
 EndsDump file bytes (Err stop.Disk) = IsDump file bytes ⊎ (bytes ≡ [])
 EndsDump file bytes (Err stop.NoFile) = bytes ≡ []
 EndsDump file bytes (Err stop.NoMemory) = bytes ≡ []
-EndsDump file bytes (Err why) = IsRefused file (Err why) × (bytes ≡ [])
+EndsDump file bytes (Err why) = IsNotRead file (Err why) × (bytes ≡ [])
 
 -- It has put these bytes, or a front of them where a device failed.
 pub record Dumps (file : List ℕ) (old new : SinkState) (end : Result (Unit {0}) StopReason) : Type 0 where

@@ -4,10 +4,10 @@ use Rattle.std.specs.FinMap as fin
 use Rattle.size_class.specs.declared.TheConstants.{CLASSES, SIZE_MAX}
 use Rattle.map_model.specs.Maps.{Map}
 use Rattle.segment_layout.specs.Books.{Book, differs, is_damaged}
-use Rattle.table_rules.specs.Opening.{Opens}
+use Rattle.table_rules.specs.Opening.{Reads}
 use Rattle.command_face.specs.declared.stop.StopReason.{StopReason}
 use Rattle.command_face.specs.declared.stop.StopReason.TheVariants as stop
-use Rattle.command_face.specs.Refusing.{IsRefused}
+use Rattle.command_face.specs.Refusing.{IsNotRead}
 
 -- the bytes of an object, or that there is none
 abbrev pub or_missing : Option (List ℕ) → Result (List ℕ) StopReason
@@ -28,16 +28,16 @@ digest_of (Some digests) name = fin.get digests name
 abbrev pub given : Book → Map → List ℕ → Result (List ℕ) StopReason
 given book m name = if is_damaged book m name then Err stop.Damaged else or_missing (fin.get m name)
 
--- The file opens, and the answer is what its map gives to the name by its book.
+-- The file is read by its mark, and the answer is what its map gives to the name by its book.
 pub record IsGiven (name file : List ℕ) (answer : Result (List ℕ) StopReason) : Type 0 where
   pub map : Map
   pub book : Book
-  pub opens : Opens CLASSES SIZE_MAX file map book
+  pub reads : Reads CLASSES SIZE_MAX file map book
   pub same : answer ≡ given book map name
 
--- what `get` of a name is to answer
+-- what `get` of a name is to answer, of a file whose slots have logs or have none
 abbrev pub IsObject : List ℕ → List ℕ → Result (List ℕ) StopReason → Type 0
-IsObject name file answer = IsGiven name file answer ⊎ IsRefused file answer
+IsObject name file answer = IsGiven name file answer ⊎ IsNotRead file answer
 
 -- a command stops for this reason as it is to, unless the disk or memory failed
 abbrev pub StopsAs : (Result (List ℕ) StopReason → Type 0) → StopReason → Type 0

@@ -12,9 +12,9 @@ use Rattle.slot_codec.specs.declared.codec.Record.{Record}
 use Rattle.segment_layout.specs.Books.{Book}
 use Rattle.segment_layout.specs.Shapes.{buffer_of, taken_in}
 use Rattle.map_model.specs.Maps.{Map}
-use Rattle.table_rules.specs.Opening.{OpensBy}
+use Rattle.table_rules.specs.Opening.{ReadsBy}
 use Rattle.table_rules.specs.Tables.{size_sum}
-use Rattle.command_face.specs.Refusing.{IsRefused}
+use Rattle.command_face.specs.Refusing.{IsNotRead}
 use Rattle.command_face.specs.declared.stop.StopReason.{StopReason}
 use Rattle.command_face.specs.Lines.{numbered}
 
@@ -74,19 +74,19 @@ pub record Gathers (put piece put_after piece_after bytes : List ℕ)
 
 -- ---- the answers
 
--- The file opens by a table, and the answer is a text of that table and of the file's length.
+-- The file is read by its mark to a table, and the answer is a text of that table and of the file's length.
 pub record IsToldOf (text : choice.SlotTable → ℕ
     → List ℕ) (file : List ℕ) (answer : Result (List ℕ) StopReason)
     : Type 0 where
   pub table : choice.SlotTable
   pub map : Map
   pub book : Book
-  pub opens : OpensBy CLASSES SIZE_MAX table file map book
+  pub reads : ReadsBy CLASSES SIZE_MAX table file map book
   pub same : answer ≡ Ok (text table (length file))
 
--- what a command is to answer that puts such a text
+-- what a command is to answer that puts such a text, of a file whose slots have logs or have none
 abbrev pub IsTold : (choice.SlotTable → ℕ → List ℕ) → List ℕ → Result (List ℕ) StopReason → Type 0
-IsTold text file answer = IsToldOf text file answer ⊎ IsRefused file answer
+IsTold text file answer = IsToldOf text file answer ⊎ IsNotRead file answer
 
 -- what `check` is to answer, and what `map` is
 abbrev pub IsChecked : List ℕ → Result (List ℕ) StopReason → Type 0

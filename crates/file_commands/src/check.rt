@@ -1,7 +1,7 @@
 //! The command `check`: one line about the file.
 ghost use Rattle.std.specs.Prelude.{◌≡◌, ◌≢◌, ◌≤◌, None, Ok, Err, IfOk, IfErr, IsTrue, length};
 ghost use Rattle.disk_face.specs.Frames.{Unchanged};
-ghost use Rattle.reopen.specs.Loads.{KeepsLoaded, table_seen, unboxed};
+ghost use Rattle.reopen.specs.Loads.{KeepsRead, table_seen, unboxed};
 ghost use Rattle.file_commands.specs.{Getting.{StopsAs}, Texts.{IsChecked, check_text, kind_text}};
 ghost use Rattle.command_face.specs.Layers.{Answers, HasCausesAt, IsCommandReason, Looks, PutsNone};
 
@@ -16,7 +16,8 @@ use slot_codec::{Kind, head_len};
 use std::alloc::Global;
 
 /// Puts one line about the file: its numbers, and whether a flush of it was interrupted. The disk
-/// stays as it is.
+/// stays as it is. The mark of the file says whether its slots have logs; then the numbers are those behind
+/// the log of the slot in use.
 pub fn check<D: Disk, O: Sink>(
     alloc: Global,
     disk: &mut D,
@@ -55,7 +56,7 @@ fn store_line<D: Disk>(alloc: Global, disk: &mut D) -> Result<ArrayVec<u8, 4096>
 
 /// The line about the file of a table, which has this length.
 fn line_of(loaded: &BoxedLoaded<CLASSES>, length: u64) -> ArrayVec<u8, 4096>
-    requires loaded { KeepsLoaded (unboxed loaded.now) }
+    requires loaded { KeepsRead (unboxed loaded.now) }
     ensures { result.items ≡ check_text (table_seen (unboxed loaded.now) None) length }
 {
     let data = length.saturating_sub(head_len(loaded.block.names));

@@ -1,7 +1,7 @@
 //! The command `dump`: the map of a file as one stream.
 ghost use Rattle.std.specs.Prelude.{◌≡◌, ◌≢◌, ◌<◌, Err, IfErr, IsTrue, length};
 ghost use Rattle.disk_face.specs.Frames.{Unchanged};
-ghost use Rattle.reopen.specs.Loads.{IsLoadedFrom, KeepsLoaded, unboxed};
+ghost use Rattle.reopen.specs.Loads.{IsReadAs, KeepsRead, unboxed};
 ghost use Rattle.command_face.specs.Layers.{HasCausesAt, IsCommandReason};
 ghost use Rattle.file_commands.specs.Dumped.{Dumps, PutsNoDump};
 
@@ -18,8 +18,9 @@ use std::alloc::Global;
 /// pipe of Linux has room for, so that its reader takes one half while the other is filled.
 const GATHERED: usize = 32_768;
 
-/// Puts the dump of the map that the file opens to. The disk stays as it is, and where a flush was
-/// interrupted, it stays so. At the first object that is damaged it stops before its text.
+/// Puts the dump of the map that the file is read to by its mark, which says whether its slots have logs.
+/// The disk stays as it is, and where a flush was interrupted, it stays so. At the first object that is
+/// damaged it stops before its text.
 pub fn dump<D: Disk, O: Sink>(alloc: Global, disk: &mut D, output: &mut O) -> Result<(), StopReason>
     requires ready { IsTrue (D.state disk.old).is_ready }
     ensures words { (result ≢ Err StopReason.Words) × (result ≢ Err StopReason.NoFile) }
@@ -45,9 +46,9 @@ fn put_dump<D: Disk, O: Sink>(
 ) -> Result<(), StopReason>
     requires ready { IsTrue (D.state disk.old).is_ready }
     requires some { 0 < length piece.old }
-    requires loaded { KeepsLoaded (unboxed loaded.now) }
+    requires loaded { KeepsRead (unboxed loaded.now) }
     requires from { IsTrue (D.state disk.old).tells
-        → IsLoadedFrom (D.state disk.old).file (unboxed loaded.now) }
+        → IsReadAs (D.state disk.old).file (unboxed loaded.now) }
     ensures words { (result ≢ Err StopReason.Words) × (result ≢ Err StopReason.NoFile) }
     ensures dumps { IsTrue (D.state disk.old).tells
         → Dumps (D.state disk.old).file (O.state output.old) (O.state output.new) result }

@@ -2,7 +2,7 @@
 ghost use Rattle.std.specs.Prelude.{◌≡◌, ◌≢◌, ◌+◌, ◌^◌, ◌<◌, ◌≤◌, List, ℕ, Some, Err, IfOk, IfErr, IsTrue, length};
 ghost use Rattle.byte_ranges.specs.Ranges.{bytes_at};
 ghost use Rattle.disk_face.specs.Frames.{Unchanged};
-ghost use Rattle.reopen.specs.Loads.{IsLoadedFrom, KeepsLoaded, digests_loaded, unboxed};
+ghost use Rattle.reopen.specs.Loads.{IsReadAs, KeepsRead, digests_loaded, unboxed};
 ghost use Rattle.file_commands.specs.Getting.{IsObject, StopsAs, checked, digest_of};
 ghost use Rattle.command_face.specs.Layers.{Answers, HasCausesAt, IsCommandReason, Looks, PutsNone};
 
@@ -17,7 +17,7 @@ use slot_codec::{Name, has_digests, head_len};
 use std::alloc::Global;
 
 /// Puts the bytes of the object of a name and nothing more. The disk stays as it is, and where a
-/// flush was interrupted, it stays so.
+/// flush was interrupted, it stays so. The mark of the file says whether its slots have logs.
 pub fn get<D: Disk, O: Sink>(
     alloc: Global,
     disk: &mut D,
@@ -43,8 +43,8 @@ pub fn get<D: Disk, O: Sink>(
     }
 }
 
-/// Where an object stands in its file: its first byte, how many there are, and in version 2 the digest that
-/// they are to have.
+/// Where an object stands in its file: its first byte, how many there are, and the digest that they are to
+/// have, where the version of the table has digests.
 #[derive(Drop)]
 struct Located {
     at: u64,
@@ -72,15 +72,15 @@ fn locate<D: Disk>(alloc: Global, disk: &mut D, name: &Name) -> Result<Located, 
 
 /// Where the object of a name stands in the file of a table.
 fn located_in(loaded: &BoxedLoaded<CLASSES>, name: &Name) -> Result<Located, StopReason>
-    requires loaded { KeepsLoaded (unboxed loaded.now) }
-    ensures found { (file : List ℕ) → IsLoadedFrom file (unboxed loaded.now)
+    requires loaded { KeepsRead (unboxed loaded.now) }
+    ensures found { (file : List ℕ) → IsReadAs file (unboxed loaded.now)
         → IfOk result
         (λ it. IsObject name.now file (checked it.digest (Some (bytes_at file it.at it.size)))) }
-    ensures within { (file : List ℕ) → IsLoadedFrom file (unboxed loaded.now)
+    ensures within { (file : List ℕ) → IsReadAs file (unboxed loaded.now)
         → IfOk result (λ it. it.at + it.size ≤ length file) }
     ensures ranges { IfOk result (λ it. it.at + it.size < 2 ^ 64) }
     ensures only { IfErr result (λ why. why ≡ StopReason.Missing) }
-    ensures missing { (file : List ℕ) → IsLoadedFrom file (unboxed loaded.now)
+    ensures missing { (file : List ℕ) → IsReadAs file (unboxed loaded.now)
         → IfErr result (λ why. IsObject name.now file (Err why)) }
 {
     match loaded.table.get(name) {

@@ -5,18 +5,23 @@ ghost use Rattle.slot_codec.specs.Choice as choice;
 ghost use Rattle.slot_pair.specs.Formats.{HasFirstTable, IsNoStore, first_table};
 ghost use Rattle.segment_layout.specs.Books.{Book, empty_book};
 ghost use Rattle.map_model.specs.Maps.{Map, volume};
-ghost use Rattle.table_rules.specs.{Opening.{Opens, OpensBy}, Tables.{size_sum}};
+ghost use Rattle.table_rules.specs.{Opening.{Opens, OpensBy, ReadsBy}, Tables.{size_sum}};
 ghost use Rattle.file_commands.specs.{Texts.{check_text, map_text}, Worked.{hello, moved_up}};
 
 use size_class::{CLASSES, SIZE_MAX};
 
 /// The table by which a file opens has a record for each name of the map for which the file stands,
-/// and their sizes together are the map's bytes. So `check` tells how many names and bytes there are.
+/// and their sizes together are the map's bytes. So has the table to which a file is read by its mark, whose
+/// slots may have logs. So `check` tells how many names and bytes there are.
 pub fn told_of_the_map()
     ensures names { (t : choice.SlotTable) (file : List ℕ) (m : Map) (b : Book)
         → OpensBy CLASSES SIZE_MAX t file m b → length t.records ≡ fin.len m }
     ensures bytes { (t : choice.SlotTable) (file : List ℕ) (m : Map) (b : Book)
         → OpensBy CLASSES SIZE_MAX t file m b → size_sum t.records ≡ volume m }
+    ensures names_read { (t : choice.SlotTable) (file : List ℕ) (m : Map) (b : Book)
+        → ReadsBy CLASSES SIZE_MAX t file m b → length t.records ≡ fin.len m }
+    ensures bytes_read { (t : choice.SlotTable) (file : List ℕ) (m : Map) (b : Book)
+        → ReadsBy CLASSES SIZE_MAX t file m b → size_sum t.records ≡ volume m }
 {}
 
 /// A file with the table that a store is made with opens by it to the empty map and the empty book, and a

@@ -1,4 +1,5 @@
-//! The commands that look at a file or make one: `format`, `get`, `check`, `map` and `dump`.
+//! The commands that look at a file or make one: `format`, `get`, `check`, `map` and `dump`. Those that look
+//! at one go by its mark: they read files whose slots have no logs, and files whose slots have logs.
 #![tactic(auto)]
 
 mod check;

@@ -7,7 +7,7 @@ ghost use Rattle.size_class.specs.Classes.{width};
 ghost use Rattle.slot_codec.specs.{Names.{IsName}, Reading.{all_in_range}};
 ghost use Rattle.table_check.specs.Frames.{AreSmall};
 ghost use Rattle.extent_table.specs.Extents.{IsTable, record_of, records_of};
-ghost use Rattle.reopen.specs.Loads.{KeepsLoaded, table_seen, unboxed};
+ghost use Rattle.reopen.specs.Loads.{KeepsRead, table_seen, unboxed};
 ghost use Rattle.command_face.specs.Layers.{Answers, HasCausesAt, IsCommandReason, PutsNone};
 ghost use Rattle.file_commands.specs.Texts.{Gathers, IsMapped, class_line, map_text, moving_line, object_line};
 
@@ -23,7 +23,8 @@ use slot_codec::{Header, Kind, Name};
 use std::alloc::Global;
 
 /// Puts a line for a flush that was interrupted, one for each class that has a segment, and one for
-/// each object, by rising name. The disk stays as it is.
+/// each object, by rising name. The disk stays as it is. The mark of the file says whether its slots have
+/// logs; then the lines are those of the table behind the log of the slot in use.
 pub fn map<D: Disk, O: Sink>(alloc: Global, disk: &mut D, output: &mut O) -> Result<(), StopReason>
     requires ready { IsTrue (D.state disk.old).is_ready }
     ensures words { (result ≢ Err StopReason.Words) × (result ≢ Err StopReason.NoFile) }
@@ -41,7 +42,7 @@ pub fn map<D: Disk, O: Sink>(alloc: Global, disk: &mut D, output: &mut O) -> Res
 
 /// Puts the lines of a table.
 fn put_map<O: Sink>(loaded: &BoxedLoaded<CLASSES>, output: &mut O) -> Result<(), StopReason>
-    requires loaded { KeepsLoaded (unboxed loaded.now) }
+    requires loaded { KeepsRead (unboxed loaded.now) }
     ensures put { IsTrue (O.state output.old).tells
         → Puts (O.state output.old).given (O.state output.new).given
         (map_text (table_seen (unboxed loaded.now) None)) result }

@@ -1,34 +1,34 @@
 -- What a file opens to once its length is set.
-use Rattle.std.specs.Prelude.{ℕ, suc, ◌+◌, ◌-◌, ◌<◌, ◌≤◌, nat_lt, min, if◌then◌else◌, List, [], ◌∷◌, length, slice_index_or}
+use Rattle.std.specs.Prelude.{ℕ, suc, ◌+◌, ◌-◌, ◌<◌, ◌≤◌, nat_lt, min, if◌then◌else◌, Bool, List, [], ◌∷◌, length, slice_index_or}
 use Rattle.std.proofs.Common.{arith, sym, subst, inl, inr}
 use Rattle.std.proofs.lemmas.Bool.{cond-true, lt-ltb}
 use Rattle.byte_ranges.specs.Ranges.{SameBelow}
 use Rattle.disk_face.specs.Moments.{ResizedImage}
 use Rattle.slot_codec.specs.Choice as choice
-use Rattle.slot_codec.proofs.ChoiceLaws.{chosen_long, table_chosen}
+use Rattle.slot_codec.proofs.LoggedLaws.{table_long}
 use Rattle.slot_codec.specs.Spelling.{head_len}
 use Rattle.slot_codec.specs.declared.codec.Record.{Record}
 use Rattle.map_model.specs.Maps.{Map}
 use Rattle.segment_layout.specs.Books.{Book}
 use Rattle.table_rules.specs.Tables.{last_end, no_record, nth, end_of_record}
-use Rattle.table_rules.specs.Opening.{OpensBy, placed_table}
+use Rattle.table_rules.specs.Opening.{OpensBy, OpensIn, placed_table}
 use Rattle.table_rules.specs.Objects.{HasRoomFor, SameObjects}
 use Rattle.table_rules.proofs.OpeningLaws.{carries_on}
 
 -- ---- a length that is set
 
 -- the data part begins within a file that opens
-pub opens_long : (classes most : ℕ) (t : choice.SlotTable) (file : List ℕ) (m : Map) (b : Book)
-    → OpensBy classes most t file m b → head_len t.chosen.block.names ≤ length file
-opens_long classes most t file m b o = chosen_long file t.chosen (table_chosen file t o.read).0
+pub opens_long : {logged : Bool} (classes most : ℕ) (t : choice.SlotTable) (file : List ℕ) (m : Map) (b : Book)
+    → OpensIn logged classes most t file m b → head_len t.chosen.block.names ≤ length file
+opens_long {logged} classes most t file m b o = table_long logged file t o.read
 
 -- each record of a table ends within the file that opens by it
-pub record_within : (classes most : ℕ) (t : choice.SlotTable) (file : List ℕ) (m : Map) (b : Book)
-    → OpensBy classes most t file m b → (i : ℕ) → i < length t.records
+pub record_within : {logged : Bool} (classes most : ℕ) (t : choice.SlotTable) (file : List ℕ) (m : Map)
+    (b : Book) → OpensIn logged classes most t file m b → (i : ℕ) → i < length t.records
     → head_len t.chosen.block.names + end_of_record (slice_index_or t.records i no_record) ≤ length file
 record_within classes most t file m b o i low =
     let placed = placed_table classes most file t in
-    let long = chosen_long file t.chosen (table_chosen file t o.read).0 in
+    let long = opens_long classes most t file m b o in
     let r = slice_index_or t.records i no_record in
     omega (
       arith,
@@ -60,7 +60,7 @@ pub opens_resized : (classes most : ℕ) (t : choice.SlotTable) (before image : 
 opens_resized classes most t before image m b n o step low room =
     let base = head_len t.chosen.block.names in
     let placed = placed_table classes most before t in
-    let long = chosen_long before t.chosen (table_chosen before t o.read).0 in
+    let long = opens_long classes most t before m b o in
     let p = min n (length before) in
     let in_image : p ≤ length image = elim step.either
     as (λ x. p ≤ length image) [ inl e ↦ omega (arith, e) | inr e ↦ omega (arith, e) ] in

@@ -1,7 +1,7 @@
 mod RecordLaws
 mod PieceLaws
 mod TableLaws
-mod StateLaws
+pub mod StateLaws
 mod RowLaws
 mod ItemLaws
 mod TakeLaws
@@ -10,3 +10,5 @@ mod ReadLaws
 mod NextLaws
 mod LogLaws
 mod ThroughLaws
+pub mod BehindLaws
+pub mod GapLaws

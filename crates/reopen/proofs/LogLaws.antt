@@ -7,8 +7,8 @@ use Rattle.std.proofs.lemmas.Bool.{and_from, cond-true, cond-false, le-ltb, lt-l
 use Rattle.std.proofs.lemmas.Option.{same_Some}
 use Rattle.slot_codec.specs.Choice.{codec}
 use Rattle.slot_codec.specs.Entries.{entry_room}
-use Rattle.slot_codec.specs.Logs.{Given, begun, log_worn_from}
-use Rattle.slot_codec.specs.Reading.{all_in_range, is_in_range, worn_from}
+use Rattle.slot_codec.specs.Logs.{Given, begun}
+use Rattle.slot_codec.specs.Reading.{all_in_range, is_in_range, log_worn_from, worn_from}
 use Rattle.slot_codec.specs.declared.codec.CodecFault.TheVariants as fault
 use Rattle.slot_codec.specs.declared.codec.Header.{Header}
 use Rattle.slot_codec.specs.declared.codec.Kind.{Kind}

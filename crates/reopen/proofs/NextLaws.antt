@@ -10,8 +10,8 @@ use Rattle.byte_ranges.specs.Ranges.{bytes_at}
 use Rattle.byte_ranges.proofs.RangeLaws.{bytes_at-within}
 use Rattle.slot_codec.specs.Choice.{SlotRefusal, codec, is_open, placed_at}
 use Rattle.slot_codec.specs.Entries.{entry_head_of, entry_room, has_too_many, read_entry_head, up}
-use Rattle.slot_codec.specs.Logs.{Logged, Reading, ends_closed, goes_on, log_step, log_worn_from, read_entry, read_log, room_at, walk}
-use Rattle.slot_codec.specs.Reading.{are_zeros, is_in_range, number_at}
+use Rattle.slot_codec.specs.Logs.{Logged, Reading, ends_closed, goes_on, log_step, read_entry, read_log, room_at, walk}
+use Rattle.slot_codec.specs.Reading.{are_zeros, is_in_range, log_worn_from, number_at}
 use Rattle.slot_codec.specs.declared.codec.CodecFault.{CodecFault}
 use Rattle.slot_codec.specs.declared.codec.CodecFault.TheVariants as fault
 use Rattle.slot_codec.specs.declared.codec.Header.{Header}

@@ -11,7 +11,8 @@ use Rattle.byte_ranges.proofs.RangeLaws.{bytes_at-index, bytes_at-within}
 use Rattle.slot_codec.specs.Choice.{SlotRefusal, codec, is_open, placed_at}
 use Rattle.slot_codec.specs.Entries.{entry_len, entry_room, gone_from, moved_from, puts_from, read_entry_head}
 use Rattle.slot_codec.specs.Items.{read_items}
-use Rattle.slot_codec.specs.Logs.{Given, Logged, begun, cell_step, gap_step, gone_step, log_worn_from, move_step, put_step, read_changes, read_entry}
+use Rattle.slot_codec.specs.Logs.{Given, Logged, begun, cell_step, gap_step, gone_step, move_step, put_step, read_changes, read_entry}
+use Rattle.slot_codec.specs.Reading.{log_worn_from}
 use Rattle.slot_codec.specs.Rows.{Rows}
 use Rattle.slot_codec.specs.Spelling.{gate_open}
 use Rattle.slot_codec.specs.declared.codec.CodecFault.{CodecFault}

@@ -1,5 +1,5 @@
 -- Records that are read and set one after another.
-use Rattle.std.specs.Prelude.{◌≡◌, ℕ, ◌+◌, ◌-◌, ◌*◌, ◌≤◌, List, ◌++◌, drop, Option, None, Result, Ok, IsTrue}
+use Rattle.std.specs.Prelude.{◌≡◌, ℕ, ◌+◌, ◌-◌, ◌*◌, ◌≤◌, ◌==◌, if◌then◌else◌, List, ◌++◌, drop, Option, None, Result, Ok, IsTrue}
 use Rattle.std.specs.FinMap as fin
 use Rattle.byte_ranges.specs.Ranges.{bytes_at}
 use Rattle.byte_ranges.specs.Lists.{◌>>=◌}
@@ -9,6 +9,10 @@ use Rattle.slot_codec.specs.Choice.{SlotRefusal, read_records}
 use Rattle.slot_codec.specs.declared.codec.Record.{Record}
 use Rattle.extent_table.specs.Extents.{Extents, records_of, rolled}
 use Rattle.placement_model.specs.Orders.{SetSoFar}
+
+-- the version as whose records those of a version are read: those of version 3 are spelled as those of version 2
+abbrev pub spelling : ℕ → ℕ
+spelling version = if version == 3 then 2 else version
 
 -- Records are read, and they are those of a table, with their digests.
 pub record AreSet (expected : Result (List Record) SlotRefusal) (now : Extents) : Type 0 where

@@ -11,16 +11,13 @@ ghost use Rattle.reopen.specs.{Items.{AreRows, KeepsMaking, OnlyCells, Passing, 
 use disk_face::{Disk, read};
 use extent_table::{BulkLoad, Spot};
 use slot_codec::{
-    CodecFault, DIGEST_LEN, Header, PAIR_LEN, RECORD_LEN, Record, read_cell, read_move, read_name,
-    read_record,
+    CodecFault, DIGEST_LEN, Header, NAME_LEN, PAIR_LEN, RECORD_LEN, Record, read_cell, read_move,
+    read_name, read_record,
 };
 use slot_pair::SlotFault;
 
 /// How many items one read has at most.
 const ITEMS_A_READ: u64 = 512;
-
-/// The length of a name of an entry, with its own length in front and zeros behind it.
-pub(crate) const NAME_LEN: usize = 64;
 
 /// The parts of an entry behind its head.
 #[derive(Clone, Copy)]

@@ -1,6 +1,7 @@
 //! The state of a file: its slot in use, its table, and the layout in which the objects stand.
 #![tactic(auto)]
 
+mod behind;
 mod boxed;
 mod fault;
 mod items;
@@ -10,5 +11,4 @@ mod state;
 mod table;
 
 pub use fault::OpenFault;
-pub use log::read_log;
-pub use state::{BoxedLoaded, Loaded, State, load_state, read_state};
+pub use state::{BoxedLoaded, Loaded, State, load_by_mark, load_state, read_state};

@@ -1,24 +1,25 @@
 //! The log of a slot, gone through entry by entry.
 ghost use Rattle.std.specs.Prelude.{◌≡◌, ◌+◌, ◌-◌, ◌*◌, ◌^◌, ◌<◌, ◌≤◌, Ok, Some, IfOk, IfErr, IfSome, OnOk, IsTrue, length, option_map};
 ghost use Rattle.disk_face.specs.Frames.{Unchanged};
-ghost use Rattle.slot_codec.specs.{Entries.{IsEntryHead, entry_room}, Logs.{begun, log_worn_from, read_log}};
+ghost use Rattle.slot_codec.specs.{Entries.{IsEntryHead, entry_room}, Logs.{begun, read_log}, Reading.{log_worn_from}};
 ghost use Rattle.slot_pair.specs.Finding.{HasDiskCause, Refuses};
 ghost use Rattle.extent_table.specs.Extents.{IsTable};
 ghost use Rattle.reopen.specs.declared.items.Part.TheVariants.{Gap};
 ghost use Rattle.reopen.specs.{Entries.{EndWithin, IsOrderly, first_of, parts_of, read_head, read_next, read_parts, read_rest}, Items.{KeepsMaking, Passing, Stands, Taken}, Logs.{IsMaking, IsPlace, KeepsBase, logged_of}};
 
-use crate::items::{Items, NAME_LEN, Part, Progress, take_part};
+use crate::items::{Items, Part, Progress, take_part};
 use disk_face::{Disk, read};
 use extent_table::BulkLoad;
 use slot_codec::{
-    CodecFault, ENTRY_HEAD_LEN, EntryHead, GATE_OPEN, Header, Kind, PAIR_LEN, read_entry_head,
+    CodecFault, ENTRY_HEAD_LEN, EntryHead, GATE_OPEN, Header, Kind, NAME_LEN, PAIR_LEN,
+    read_entry_head,
 };
 use slot_pair::SlotFault;
 
 /// Goes through the log of a slot for `cap` records, whose first gate stands at `at` and which must end below
 /// `top`. A header and a table in the making are those before the log, and come to be those behind its last
 /// open entry. Answers where the next entry would stand. `buf` is to have room for 512 records.
-pub fn read_log<D: Disk>(
+pub(crate) fn read_log<D: Disk>(
     disk: &mut D,
     at: u64,
     top: u64,

@@ -43,6 +43,7 @@ pub(crate) fn set_all<D: Disk>(
     ensures names { OnOk result (load.new.names ≡ load.old.names) }
     ensures cause { HasDiskCause SlotFault.Disk (D.state disk.old).faults (D.state disk.new).faults result }
     ensures frame { Unchanged (D.state disk.old) (D.state disk.new) }
+    ensures same_room { length buf.new ≡ length buf.old }
 {
     set_pieces(disk, at, version, record_len(version), count, load, buf)
 }
@@ -74,6 +75,7 @@ fn set_pieces<D: Disk>(
     ensures names { OnOk result (load.new.names ≡ load.old.names) }
     ensures cause { HasDiskCause SlotFault.Disk (D.state disk.old).faults (D.state disk.new).faults result }
     ensures frame { Unchanged (D.state disk.old) (D.state disk.new) }
+    ensures same_room { length buf.new ≡ length buf.old }
 {
     let mut last = None;
     let mut done = 0;

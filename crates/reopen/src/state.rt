@@ -1,12 +1,12 @@
 //! The state of a file, and reading it.
-ghost use Rattle.std.specs.Prelude.{◌≡◌, ◌≤◌, ◌<◌, ◌^◌, IfOk, IfErr, IsTrue, vec_capacity};
+ghost use Rattle.std.specs.Prelude.{◌≡◌, ◌≤◌, ◌<◌, ◌^◌, false, Ok, IfOk, IfErr, IsTrue, vec_capacity};
 ghost use Rattle.std.specs.FinMap as fin;
 ghost use Rattle.disk_face.specs.Frames.{Unchanged};
-ghost use Rattle.slot_codec.specs.Reading.{all_in_range};
-ghost use Rattle.slot_pair.specs.Finding.{HasDiskCause};
+ghost use Rattle.slot_codec.specs.{Choice.{slot_in_use}, Reading.{all_in_range, is_logged}};
+ghost use Rattle.slot_pair.specs.Finding.{HasDiskCause, IsFoundIn};
 ghost use Rattle.table_rules.specs.Rules.{FirstBroken};
 ghost use Rattle.placement_model.specs.Laid.{laid};
-ghost use Rattle.reopen.specs.{Loads.{IsLoadedFrom, IsStateOf, KeepsLoaded, KeepsState, kind_of, loaded_of, unboxed}, Refusals.{BreaksLaid, RefusesToOpen}, Tables.{IsCheckedLayout}};
+ghost use Rattle.reopen.specs.{Loads.{IsLoadedFrom, IsReadAs, IsReadIn, IsStateOf, KeepsLoaded, KeepsLoadedIn, KeepsRead, KeepsState, kind_of, loaded_of, unboxed}, Refusals.{BreaksLaid, RefusesToOpen, RefusesToRead}, Tables.{IsCheckedLayout, IsSlotFound}};
 
 use crate::OpenFault;
 use crate::boxed::boxed;
@@ -16,7 +16,7 @@ use extent_table::Table;
 use segment_layout::Layout;
 use size_class::SIZE_MAX;
 use slot_codec::{Header, Kind, SuperBlock};
-use slot_pair::{SlotFault, SlotPair};
+use slot_pair::{Found, SlotFault, SlotPair, choose, choose_by_mark};
 use std::alloc::Global;
 use table_check::{TableFault, check_moving, check_settled};
 
@@ -94,13 +94,68 @@ pub fn load_state<D: Disk, const C: usize>(
         (D.state disk.new).faults result }
     ensures frame { Unchanged (D.state disk.old) (D.state disk.new) }
 {
+    match choose(disk) {
+        Ok(found) => load_slot(alloc, disk, found, false),
+        Err(fault) => Err(OpenFault::Slot(fault)),
+    }
+}
+
+/// Reads a file's table as `load_state` does, also that of a file whose slots have logs, which its mark says;
+/// there the table is that behind the log of the slot in use. Faults of the log come behind those of the
+/// records.
+pub fn load_by_mark<D: Disk, const C: usize>(
+    alloc: Global,
+    disk: &mut D,
+) -> Result<BoxedLoaded<C>, OpenFault>
+    requires ready { IsTrue (D.state disk.old).is_ready }
+    requires fits { C ≤ 32 }
+    requires wide { SIZE_MAX < 2 ^ C }
+    ensures opened { IsTrue (D.state disk.old).tells
+        → IfOk result (λ found. IsReadAs (D.state disk.old).file (unboxed found)) }
+    ensures refused { IsTrue (D.state disk.old).tells → IfErr result
+        (RefusesToRead (is_logged (D.state disk.old).file) C (D.state disk.old).file) }
+    ensures loaded { IfOk result (λ found. KeepsRead (unboxed found)) }
+    ensures cause { HasDiskCause (OpenFault.Slot SlotFault.Disk) (D.state disk.old).faults
+        (D.state disk.new).faults result }
+    ensures frame { Unchanged (D.state disk.old) (D.state disk.new) }
+{
+    match choose_by_mark(disk) {
+        Ok((found, logged)) => load_slot(alloc, disk, found, logged),
+        Err(fault) => Err(OpenFault::Slot(fault)),
+    }
+}
+
+/// Reads the table of a slot in use that was found, and checks its rules.
+fn load_slot<D: Disk, const C: usize>(
+    alloc: Global,
+    disk: &mut D,
+    found: Found,
+    logged: bool,
+) -> Result<BoxedLoaded<C>, OpenFault>
+    requires ready { IsTrue (D.state disk.old).is_ready }
+    requires fits { C ≤ 32 }
+    requires wide { SIZE_MAX < 2 ^ C }
+    requires slot { IsSlotFound logged found }
+    requires there { IsTrue (D.state disk.old).tells
+        → IsFoundIn (D.state disk.old).file logged (found, logged) }
+    ensures in_use { IsTrue (D.state disk.old).tells → logged ≡ false
+        → IfOk result (λ made. slot_in_use (D.state disk.old).file ≡ Ok made.slots) }
+    ensures opened { IsTrue (D.state disk.old).tells
+        → IfOk result (λ made. IsReadIn logged (D.state disk.old).file (unboxed made)) }
+    ensures refused { IsTrue (D.state disk.old).tells
+        → IfErr result (RefusesToRead logged C (D.state disk.old).file) }
+    ensures loaded { IfOk result (λ made. KeepsLoadedIn logged (unboxed made)) }
+    ensures cause { HasDiskCause (OpenFault.Slot SlotFault.Disk) (D.state disk.old).faults
+        (D.state disk.new).faults result }
+    ensures frame { Unchanged (D.state disk.old) (D.state disk.new) }
+{
     let TableRead {
         found,
         header,
         table,
         mut order,
         data_len,
-    } = read_table(alloc, disk)?;
+    } = read_table(alloc, disk, found, logged)?;
     match layout_of(alloc, &table, &*header, found.block.k, data_len, &mut order) {
         Ok(layout) => Ok(BoxedLoaded {
             block: found.block,

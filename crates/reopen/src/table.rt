@@ -1,19 +1,21 @@
 //! Reading the table of a file, whose rules aren't tried.
-ghost use Rattle.std.specs.Prelude.{◌≡◌, ◌+◌, ◌*◌, ◌≤◌, Ok, IfOk, IfErr, IfSome, OnOk, IsTrue, length, vec_capacity, vec_len};
+ghost use Rattle.std.specs.Prelude.{◌≡◌, ◌*◌, ◌≤◌, false, Ok, IfOk, IfErr, IfSome, OnOk, IsTrue, length, vec_capacity, vec_len};
 ghost use Rattle.std.specs.FinMap as fin;
 ghost use Rattle.disk_face.specs.Frames.{Unchanged};
-ghost use Rattle.slot_codec.specs.{Choice.{chosen, records_of, slot_in_use, table_of}, Readable.{IsSuperBlock}, Spelling.{head_len, record_len}};
-ghost use Rattle.slot_pair.specs.Finding.{HasDiskCause, Refuses, chosen_of, in_use_of};
+ghost use Rattle.slot_codec.specs.{Choice.{chosen_in, records_of}, Logs.{table_in}, Spelling.{head_len, record_len}};
+ghost use Rattle.slot_pair.specs.Finding.{HasDiskCause, IsFoundIn, IsHeaderIn, Refuses, chosen_of};
 ghost use Rattle.extent_table.specs.Extents as extents;
-ghost use Rattle.reopen.specs.{Records.{AreSet}, Refusals.{RefusesBy}, Tables.{IsFound, IsFoundIn, IsHeader, IsTableRead, IsReadFrom}};
+ghost use Rattle.extent_table.specs.Extents.{IsTable, with_now_kept};
+ghost use Rattle.reopen.specs.{Records.{AreSet, spelling}, Refusals.{RefusesBy}, Tables.{IsChosenIn, IsFound, IsReadFrom, IsSlotFound, IsTableRead, table_there}};
 
 use crate::OpenFault;
+use crate::behind::take_log;
 use crate::boxed::boxed;
 use crate::records::{RECORDS_A_READ, set_all};
 use disk_face::{Disk, length_of};
 use extent_table::{BulkLoad, Table};
 use slot_codec::{HEADER_LEN, Header, cap, head_len, record_len};
-use slot_pair::{Found, SlotFault, choose, read_chosen_header, slot_at};
+use slot_pair::{Found, SlotFault, read_header_in, slot_at};
 use std::alloc::Global;
 
 /// A table that was read: where it was found, with the sequence of its header; its header; where its
@@ -37,25 +39,39 @@ struct Room {
     order: Vec<u32>,
 }
 
-/// Reads the table of a file.
-pub(crate) fn read_table<D: Disk>(alloc: Global, disk: &mut D) -> Result<TableRead, OpenFault>
+/// Reads the table of a slot in use that was found: its records, and where slots have logs what the entries of
+/// its log make of them.
+pub(crate) fn read_table<D: Disk>(
+    alloc: Global,
+    disk: &mut D,
+    found: Found,
+    logged: bool,
+) -> Result<TableRead, OpenFault>
     requires ready { IsTrue (D.state disk.old).is_ready }
-    ensures read { IfOk result IsTableRead }
-    ensures told { IsTrue (D.state disk.old).tells → IfOk result (IsReadFrom (D.state disk.old).file) }
+    requires slot { IsSlotFound logged found }
+    requires there { IsTrue (D.state disk.old).tells
+        → IsFoundIn (D.state disk.old).file logged (found, logged) }
+    ensures read { IfOk result (IsTableRead logged) }
+    ensures told { IsTrue (D.state disk.old).tells → IfOk result (IsReadFrom logged (D.state disk.old).file) }
     ensures refused { IsTrue (D.state disk.old).tells
-        → IfErr result (RefusesBy (table_of (D.state disk.old).file)) }
+        → IfErr result (RefusesBy (table_in logged (D.state disk.old).file)) }
     ensures cause { HasDiskCause (OpenFault.Slot SlotFault.Disk) (D.state disk.old).faults
         (D.state disk.new).faults result }
     ensures frame { Unchanged (D.state disk.old) (D.state disk.new) }
 {
-    let (found, header) = match find_header(alloc, disk) {
-        Ok(found) => found,
-        Err(fault) => return Err(fault),
-    };
+    let mut header = header_of(alloc, disk, &found, logged)?;
     let Some(mut room) = room_for(alloc, found.block.names, header.version) else {
         return Err(OpenFault::NoMemory);
     };
-    if let Err(fault) = load_records(disk, &found, &*header, &mut room.load, &mut room.buf) {
+    let read = load_rows(
+        disk,
+        &found,
+        &mut *header,
+        &mut room.load,
+        &mut room.buf,
+        logged,
+    );
+    if let Err(fault) = read {
         return Err(OpenFault::Slot(fault));
     }
     let Ok(length) = length_of(disk) else {
@@ -64,8 +80,9 @@ pub(crate) fn read_table<D: Disk>(alloc: Global, disk: &mut D) -> Result<TableRe
     let mut table = room.load.into_table();
     table.keep();
     table.narrow(cap(found.block.names, header.version));
+    let sequence = header.sequence;
     Ok(TableRead {
-        found,
+        found: Found { sequence, ..found },
         header,
         table,
         order: room.order,
@@ -73,53 +90,67 @@ pub(crate) fn read_table<D: Disk>(alloc: Global, disk: &mut D) -> Result<TableRe
     })
 }
 
-/// The slot in use, with the sequence of its header, and its header.
-fn find_header<D: Disk>(alloc: Global, disk: &mut D) -> Result<(Found, Box<Header>), OpenFault>
-    requires ready { IsTrue (D.state disk.old).is_ready }
-    ensures found { IfOk result (λ r. IsFound r.0 r.1.value) }
-    ensures told { IsTrue (D.state disk.old).tells
-        → IfOk result (λ r. IsFoundIn (D.state disk.old).file r.0 r.1.value) }
-    ensures refused { IsTrue (D.state disk.old).tells
-        → IfErr result (RefusesBy (chosen (D.state disk.old).file)) }
-    ensures cause { HasDiskCause (OpenFault.Slot SlotFault.Disk) (D.state disk.old).faults
-        (D.state disk.new).faults result }
-    ensures frame { Unchanged (D.state disk.old) (D.state disk.new) }
-{
-    let found = match choose(disk) {
-        Ok(found) => found,
-        Err(fault) => return Err(OpenFault::Slot(fault)),
-    };
-    let header = header_of(alloc, disk, &found)?;
-    let sequence = header.sequence;
-    Ok((Found { sequence, ..found }, header))
-}
-
 /// The header of the slot in use that was found. On the stack it stands while it is read, and no longer.
 #[inline(never)]
-fn header_of<D: Disk>(alloc: Global, disk: &mut D, found: &Found) -> Result<Box<Header>, OpenFault>
+fn header_of<D: Disk>(
+    alloc: Global,
+    disk: &mut D,
+    found: &Found,
+    logged: bool,
+) -> Result<Box<Header>, OpenFault>
     requires ready { IsTrue (D.state disk.old).is_ready }
-    requires block { IsSuperBlock found.now.block }
-    requires slot { found.now.slot ≤ 1 }
-    requires long { IsTrue (D.state disk.old).tells
-        → head_len found.now.block.names ≤ length (D.state disk.old).file }
-    requires found { IsTrue (D.state disk.old).tells
-        → slot_in_use (D.state disk.old).file ≡ Ok (in_use_of found.now) }
-    ensures header { IfOk result (λ header. IsHeader found.now.block.names header.value) }
+    requires slot { IsSlotFound logged found.now }
+    requires there { IsTrue (D.state disk.old).tells
+        → IsFoundIn (D.state disk.old).file logged (found.now, logged) }
+    ensures found { IfOk result (λ header. IsFound logged found.now header.value) }
     ensures read { IsTrue (D.state disk.old).tells
-        → IfOk result (λ header. chosen (D.state disk.old).file ≡ Ok (chosen_of found.now header.value)) }
-    ensures sequence { IsTrue (D.state disk.old).tells
-        → IfOk result (λ header. header.value.sequence ≡ found.now.sequence) }
+        → IfOk result (λ header. IsHeaderIn logged (D.state disk.old).file found.now header.value) }
     ensures refused { IsTrue (D.state disk.old).tells
-        → IfErr result (RefusesBy (chosen (D.state disk.old).file)) }
+        → IfErr result (RefusesBy (chosen_in logged (D.state disk.old).file)) }
     ensures cause { HasDiskCause (OpenFault.Slot SlotFault.Disk) (D.state disk.old).faults
         (D.state disk.new).faults result }
     ensures frame { Unchanged (D.state disk.old) (D.state disk.new) }
 {
-    let read = read_chosen_header(disk, found);
+    let read = read_header_in(disk, found, logged);
     match &read {
         Ok(header) => boxed(alloc, header),
         Err(fault) => Err(OpenFault::Slot(*fault)),
     }
+}
+
+/// Sets the records of the slot in use in a table that has no names yet, and where slots have logs takes the log
+/// behind them: a header comes to be that behind the log.
+fn load_rows<D: Disk>(
+    disk: &mut D,
+    found: &Found,
+    header: &mut Header,
+    load: &mut BulkLoad,
+    buf: &mut [u8],
+    logged: bool,
+) -> Result<(), SlotFault>
+    requires ready { IsTrue (D.state disk.old).is_ready }
+    requires found { IsFound logged found.now header.old }
+    requires chosen { IsTrue (D.state disk.old).tells
+        → IsChosenIn logged (D.state disk.old).file found.now header.old }
+    requires room { record_len header.old.version * 512 ≤ length buf.old }
+    requires empty { load.old.now ≡ fin.empty }
+    requires names { load.old.names ≡ found.now.block.names }
+    ensures read { IsTrue (D.state disk.old).tells → OnOk result (IsTable (with_now_kept load.new)
+        → table_in logged (D.state disk.old).file ≡ Ok (table_there found.now header.new load.new)) }
+    ensures refused { IsTrue (D.state disk.old).tells
+        → IfErr result (Refuses (table_in logged (D.state disk.old).file)) }
+    ensures found { OnOk result (IsFound logged found.now header.new) }
+    ensures plain { logged ≡ false → header.new ≡ header.old }
+    ensures count { OnOk result (fin.len load.new.now ≡ header.new.count) }
+    ensures names { OnOk result (load.new.names ≡ load.old.names) }
+    ensures cause { HasDiskCause SlotFault.Disk (D.state disk.old).faults (D.state disk.new).faults result }
+    ensures frame { Unchanged (D.state disk.old) (D.state disk.new) }
+{
+    load_records(disk, found, header, load, buf, logged)?;
+    if logged {
+        take_log(disk, found, header, load, buf)?;
+    }
+    Ok(())
 }
 
 /// Sets the records of the slot in use in a table that has no names yet.
@@ -129,26 +160,35 @@ fn load_records<D: Disk>(
     header: &Header,
     load: &mut BulkLoad,
     buf: &mut [u8],
+    logged: bool,
 ) -> Result<(), SlotFault>
     requires ready { IsTrue (D.state disk.old).is_ready }
-    requires found { IsFound found.now header.now }
+    requires found { IsFound logged found.now header.now }
     requires long { IsTrue (D.state disk.old).tells
         → head_len found.now.block.names ≤ length (D.state disk.old).file }
     requires room { record_len header.now.version * 512 ≤ length buf.old }
     requires empty { load.old.now ≡ fin.empty }
     requires names { load.old.names ≡ found.now.block.names }
-    ensures records { IsTrue (D.state disk.old).tells
-        → OnOk result (AreSet (records_of (D.state disk.old).file (chosen_of found.now header.now))
-        load.new) }
+    ensures records { IsTrue (D.state disk.old).tells → OnOk result (AreSet
+        (records_of (D.state disk.old).file (chosen_of found.now header.now)) load.new) }
     ensures refused { IsTrue (D.state disk.old).tells
         → IfErr result (Refuses (records_of (D.state disk.old).file (chosen_of found.now header.now))) }
     ensures count { OnOk result (fin.len load.new.now ≡ header.now.count) }
     ensures names { OnOk result (load.new.names ≡ load.old.names) }
     ensures cause { HasDiskCause SlotFault.Disk (D.state disk.old).faults (D.state disk.new).faults result }
     ensures frame { Unchanged (D.state disk.old) (D.state disk.new) }
+    ensures same_room { length buf.new ≡ length buf.old }
 {
     let at = slot_at(found.block.names, found.slot) + HEADER_LEN as u64;
-    set_all(disk, at, header.version, header.count, load, buf)
+    set_all(disk, at, spelling(header.version), header.count, load, buf)
+}
+
+/// The version as whose records those of a version are read: those of version 3 are spelled as those of
+/// version 2.
+fn spelling(version: u8) -> u8
+    ensures { result ≡ spelling version }
+{
+    if version == 3 { 2 } else { version }
 }
 
 /// The memory that opening takes, for `names` names and a table of a version.

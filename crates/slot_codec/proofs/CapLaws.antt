@@ -1,7 +1,6 @@
 -- How long a record is, and how many a slot has room for.
 use Rattle.std.proofs.Common.{◌≡◌, ℕ, ◌*◌, ◌/◌, ◌≤◌, ◌==◌, true, false, inl, inr, sym, subst, arith}
 use Rattle.std.proofs.lemmas.Bool.{cases_Bool, cond-true, cond-false}
-use Rattle.std.proofs.Math.Nat.{mul-le-mul_left}
 use Rattle.slot_codec.specs.Spelling.{cap, has_digests, record_len, room_len}
 
 pub record_len-long : (version : ℕ) → has_digests version ≡ true → record_len version ≡ 112

@@ -1,27 +1,24 @@
 -- What is read as an entry is the spelling of one.
 use Rattle.std.proofs.Common.{◌≡◌, ℕ, ◌+◌, ◌-◌, ◌*◌, ◌<◌, ◌≤◌, List, ◌++◌, length, refl, sym, ap, ◌∙◌, subst, arith}
-use Rattle.std.proofs.lemmas.Bool.{leb-false, ltb-false}
 use Rattle.std.specs.FinMap as fin
-use Rattle.std.specs.Prelude.{if◌then◌else◌, nat_le, nat_lt, flat_map, Ok, Err}
+use Rattle.std.specs.Prelude.{flat_map, Ok}
 use Rattle.byte_ranges.specs.Ranges.{bytes_at}
 use Rattle.byte_ranges.specs.Lists.{◌>>=◌}
 use Rattle.byte_ranges.proofs.RangeLaws.{length-bytes_at}
-use Rattle.slot_codec.specs.Choice.{codec, placed_at}
-use Rattle.slot_codec.specs.Entries.{Entry, entry_bytes, entry_head_bytes, entry_len, entry_room, gone_from, moved_from, pair_bytes, puts_from, read_entry_head}
+use Rattle.slot_codec.specs.Entries.{Entry, entry_bytes, entry_head_bytes, entry_len, entry_room, gone_from, moved_from, pair_bytes, puts_from}
 use Rattle.slot_codec.specs.Items.{after_items, read_items}
-use Rattle.slot_codec.specs.Logs.{Given, IsEntry, Logged, after_entry, begun, cell_step, gap_step, gone_step, log_worn_from, move_step, put_step, read_changes, read_entry, with_given}
+use Rattle.slot_codec.specs.Logs.{Given, IsEntry, Logged, after_entry, begun, gone_step, move_step, put_step, read_changes, read_entry, with_given}
 use Rattle.slot_codec.specs.Names.{name_bytes}
 use Rattle.slot_codec.specs.Rows.{AreChanges, Rows, changed_rows, moved_row}
 use Rattle.slot_codec.specs.Spelling.{AreBytes, record_bytes, zeros}
 use Rattle.slot_codec.specs.declared.entry.EntryHead.{EntryHead}
 use Rattle.slot_codec.specs.declared.codec.Record.{Record}
-use Rattle.slot_codec.specs.declared.codec.CodecFault.TheVariants as fault
 use Rattle.slot_codec.proofs.EntryItemLaws.{only_cells, only_moves, only_names, only_puts}
 use Rattle.slot_codec.proofs.EntryLaws.{entry_head_parts, entry_head_spelled}
 use Rattle.slot_codec.proofs.ItemLaws.{items_back}
 use Rattle.slot_codec.proofs.PartLaws.{bytes_at-are_bytes, bytes_at-more}
-use Rattle.slot_codec.proofs.ReadEntryLaws.{entry_behind, entry_ended, gap_back}
-use Rattle.slot_codec.proofs.StepLaws.{bind_ok, from_ok, guard_ok, placed_ok}
+use Rattle.slot_codec.proofs.ReadEntryLaws.{entry_steps, gap_back}
+use Rattle.slot_codec.proofs.StepLaws.{bind_ok}
 
 -- a part that grows at its end
 grown : (b : List ℕ) (at n to m all : ℕ) (front part : List ℕ) → at + n ≡ to → n + m ≡ all
@@ -107,37 +104,24 @@ text_joined file at h x left cells c head cell_text gap =
 pub entry_back : (cap top : ℕ) (file : List ℕ) (at : ℕ) (x y : Logged) → AreBytes file → top ≤ length file
     → read_entry cap top file at x ≡ Ok y → ReadEntry cap top file at x y
 entry_back cap top file at x y bytes long read =
-    let count = fin.len x.rows in
-    let room = top - at in
     let text = bytes_at file (at + 1) 55 in
-    let a = bind_ok (placed_at at (read_entry_head cap count room text)) (entry_behind cap file at x) y read
-    in
-    let h = a.0 in
-    let head = placed_ok at (read_entry_head cap count room text) h a.1 in
+    let p = entry_steps cap top file at x y read in
+    let h = p.head in
     let are = bytes_at-are_bytes file (at + 1) 55 bytes in
-    let fits = (entry_head_parts cap count room text h are head).fits in
+    let fits = (entry_head_parts cap (fin.len x.rows) (top - at) text h are p.head_read).fits in
     let inside : at + entry_room h < length file = omega (arith, fits.within, long) in
     let len : entry_len h ≤ entry_room h = omega arith in
     let least : 56 ≤ entry_len h = omega arith in
-    let spelled = entry_head_spelled cap count room text h
-    (length-bytes_at file (at + 1) 55 (omega (arith, inside, len, least))) are head in
+    let spelled = entry_head_spelled cap (fin.len x.rows) (top - at) text h
+    (length-bytes_at file (at + 1) 55 (omega (arith, inside, len, least))) are p.head_read in
     let g : Given = record { next = 0; header = begun x.header h } in
-    let b = guard_ok (nat_le (log_worn_from h.kind) (x.header.sequence + 1)) (codec fault.Worn at) _ y a.2 in
-    let c = bind_ok (read_items cell_step 16 h.cells file (at + 56) g)
-    (λ given. read_changes file at h x.rows >>= λ rows. entry_ended cap file at h given rows) y b.1 in
-    let given : Given = c.0 in
-    let cells = items_back only_cells h.cells file (at + 56) g given bytes (omega (arith, inside, len)) c.1 in
-    let d = bind_ok (read_changes file at h x.rows) (entry_ended cap file at h given) y c.2 in
-    let rows = d.0 in
-    let changes = changes_back file at h x.rows rows bytes (omega (arith, inside, len)) d.1 in
+    let cells = items_back only_cells h.cells file (at + 56) g p.given bytes (omega (arith, inside, len))
+    p.cells_read in
+    let changes = changes_back file at h x.rows p.left bytes (omega (arith, inside, len)) p.rows_read in
     let end : Given → Rows → Logged = λ given rows.
     record { header = record given.header { count = fin.len rows }; rows = rows } in
-    let e = bind_ok (read_items gap_step 1 (entry_room h - entry_len h) file (at + entry_len h) tt)
-    (λ none. if nat_lt cap (fin.len rows) then Err (codec fault.Count at) else Ok (end given rows)) y d.2 in
-    let f = guard_ok (nat_lt cap (fin.len rows)) (codec fault.Count at) (Ok (end given rows)) y e.2 in
-    let gap = gap_back (entry_room h - entry_len h) file (at + entry_len h) (omega (arith, inside, len)) e.1
-    in
-    let few : fin.len rows ≤ cap = ltb-false cap (fin.len rows) f.0 in
+    let gap = gap_back (entry_room h - entry_len h) file (at + entry_len h) (omega (arith, inside, len))
+    p.gap_zeros in
     record {
       entry = record {
         head = h;
@@ -152,12 +136,12 @@ entry_back cap top file at x y bytes long read =
         moved = changes.as_many_moved;
         gone = changes.as_many_gone;
         puts = changes.as_many_puts;
-        fresh = leb-false (log_worn_from h.kind) (x.header.sequence + 1) b.0;
+        fresh = p.fresh;
         are_cells = cells.are;
         are_changes = changes.are;
-        few = subst (λ rows. fin.len rows ≤ cap) changes.is few;
+        few = subst (λ rows. fin.len rows ≤ cap) changes.is p.few;
       };
-      text = text_joined file at h x.rows rows cells.items changes spelled cells.text gap;
-      is = sym (from_ok (end given rows) y f.1) ∙ ap (λ given. end given rows) cells.is
+      text = text_joined file at h x.rows p.left cells.items changes spelled cells.text gap;
+      is = sym p.is ∙ ap (λ given. end given p.left) cells.is
           ∙ ap (end (after_items with_given g cells.items)) changes.is;
     }

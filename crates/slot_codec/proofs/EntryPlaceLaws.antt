@@ -10,8 +10,8 @@ use Rattle.byte_ranges.proofs.RangeLaws.{bytes_at-same, bytes_at-within}
 use Rattle.slot_codec.specs.Choice.{SlotRefusal, codec, placed_at}
 use Rattle.slot_codec.specs.Entries.{entry_head_of, entry_len, entry_room, gone_from, has_too_many, moved_from, puts_from, read_entry_head, up}
 use Rattle.slot_codec.specs.Items.{read_items}
-use Rattle.slot_codec.specs.Logs.{Given, IsLocal, Logged, begun, cell_step, gap_step, gone_step, len_at, log_step, log_worn_from, move_step, put_step, read_changes, read_entry, room_at}
-use Rattle.slot_codec.specs.Reading.{are_zeros, is_in_range, number_at}
+use Rattle.slot_codec.specs.Logs.{Given, IsLocal, Logged, begun, cell_step, gap_step, gone_step, len_at, log_step, move_step, put_step, read_changes, read_entry, room_at}
+use Rattle.slot_codec.specs.Reading.{are_zeros, is_in_range, log_worn_from, number_at}
 use Rattle.slot_codec.specs.Rows.{Rows}
 use Rattle.slot_codec.specs.declared.entry.EntryHead.{EntryHead}
 use Rattle.slot_codec.specs.declared.codec.CodecFault.{CodecFault}

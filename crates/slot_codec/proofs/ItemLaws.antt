@@ -138,3 +138,16 @@ items_keep step keeps each len (suc n) file at s t read =
     in
     items_keep step keeps each len n file (at + len) r.0 t r.2
     ∙ each s r.0 (bytes_at file at len) (placed_ok at (step s (bytes_at file at len)) r.0 r.1)
+
+-- and what each step keeps true stays true
+pub items_hold : {S : Type 0} (step : S → List ℕ → Result S CodecFault) (Holds : S → Type 0)
+    (each : (s t : S) (bytes : List ℕ) → Holds s → step s bytes ≡ Ok t → Holds t)
+    (len n : ℕ) (file : List ℕ) (at : ℕ) (s t : S) → Holds s → read_items step len n file at s ≡ Ok t
+    → Holds t
+items_hold step Holds each len zero file at s t holds read = subst Holds (from_ok s t read) holds
+items_hold step Holds each len (suc n) file at s t holds read =
+    let r = bind_ok (placed_at at (step s (bytes_at file at len)))
+    (read_items step len n file (at + len)) t read
+    in
+    items_hold step Holds each len n file (at + len) r.0 t
+    (each s r.0 (bytes_at file at len) holds (placed_ok at (step s (bytes_at file at len)) r.0 r.1)) r.2

@@ -1,12 +1,12 @@
 -- A name in 64 bytes has one spelling, and reading is its inverse.
-use Rattle.std.proofs.Common.{◌≡◌, ◌↔◌, ℕ, ◌+◌, ◌-◌, ◌<◌, ◌≤◌, true, false, not, ◌||◌, List, [], ◌∷◌, ◌++◌, length, take, refl, sym, ap, ◌∙◌, subst, arith, drop-cons, length-append}
+use Rattle.std.proofs.Common.{◌≡◌, ℕ, ◌+◌, ◌-◌, ◌<◌, ◌≤◌, true, false, not, ◌||◌, List, [], ◌∷◌, ◌++◌, length, take, refl, sym, ap, ◌∙◌, subst, arith, drop-cons}
 use Rattle.std.proofs.lemmas.Bool.{le-ltb, ltb-false, not-false, not_from_true, or_from, or_parts}
 use Rattle.std.proofs.lemmas.List.{take_all, length-replicate}
 use Rattle.std.specs.Prelude.{nat_lt, slice_index, Ok}
 use Rattle.byte_ranges.specs.Ranges.{bytes_at}
 use Rattle.byte_ranges.proofs.RangeLaws.{length-bytes_at}
 use Rattle.slot_codec.specs.Names.{is_name, IsName, name_bytes}
-use Rattle.slot_codec.proofs.NameLemmas.{length-name_bytes, name_short}
+use Rattle.slot_codec.proofs.NameLemmas.{name_short}
 use Rattle.slot_codec.proofs.PartLaws.{StandsAt, bytes_at-more, stands_bytes, stands_index, stands_left, stands_right, stands_whole, zeros_are_zeros, zeros_spelled}
 use Rattle.slot_codec.specs.Reading.{are_zeros, read_name}
 use Rattle.slot_codec.specs.Spelling.{zeros}

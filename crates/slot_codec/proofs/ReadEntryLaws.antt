@@ -1,6 +1,6 @@
 -- An entry has one spelling, reading is its inverse, and it rests on its own bytes.
 use Rattle.std.proofs.Common.{◌≡◌, ℕ, zero, suc, ◌+◌, ◌-◌, ◌*◌, ◌<◌, ◌≤◌, ◌^◌, not, List, ◌++◌, length, drop, refl, sym, ap, ◌∙◌, arith, length-append}
-use Rattle.std.proofs.lemmas.Bool.{le-ltb, lt-leb, not-false}
+use Rattle.std.proofs.lemmas.Bool.{le-ltb, leb-false, lt-leb, ltb-false, not-false}
 use Rattle.std.proofs.lemmas.List.{length-replicate, take-append-drop}
 use Rattle.std.specs.FinMap as fin
 use Rattle.std.specs.Prelude.{if◌then◌else◌, nat_le, nat_lt, flat_map, Result, Ok, Err}
@@ -10,9 +10,9 @@ use Rattle.byte_ranges.proofs.RangeLaws.{length-bytes_at}
 use Rattle.slot_codec.specs.Choice.{SlotRefusal, codec, placed_at}
 use Rattle.slot_codec.specs.Entries.{Entry, entry_bytes, entry_head_bytes, entry_len, entry_room, gone_from, moved_from, pair_bytes, puts_from, read_entry_head}
 use Rattle.slot_codec.specs.Items.{AreItems, after_items, read_items}
-use Rattle.slot_codec.specs.Logs.{Given, IsEntry, Logged, after_entry, begun, cell_step, gap_step, gone_step, log_worn_from, move_step, put_step, read_changes, read_entry, with_given}
+use Rattle.slot_codec.specs.Logs.{Given, IsEntry, Logged, after_entry, begun, cell_step, gap_step, gone_step, move_step, put_step, read_changes, read_entry, with_given}
 use Rattle.slot_codec.specs.Names.{name_bytes}
-use Rattle.slot_codec.specs.Reading.{are_zeros}
+use Rattle.slot_codec.specs.Reading.{are_zeros, log_worn_from}
 use Rattle.slot_codec.specs.Rows.{Rows, changed_rows, moved_row}
 use Rattle.slot_codec.specs.Spelling.{record_bytes, zeros}
 use Rattle.slot_codec.specs.declared.entry.EntryHead.{EntryHead}
@@ -21,7 +21,7 @@ use Rattle.slot_codec.proofs.EntryItemLaws.{IsLowMove, moves_low, takes_cells, t
 use Rattle.slot_codec.proofs.EntryLaws.{entry_head_read}
 use Rattle.slot_codec.proofs.ItemLaws.{items_read, length-items}
 use Rattle.slot_codec.proofs.PartLaws.{StandsAt, bytes_at-more, stands_bytes, stands_left, stands_right, zeros_spelled}
-use Rattle.slot_codec.proofs.StepLaws.{bind_from, bind_ok, guard_from, guard_ok, placed_ok}
+use Rattle.slot_codec.proofs.StepLaws.{bind_from, bind_ok, from_ok, guard_from, guard_ok, placed_ok}
 
 -- ---- the gap
 
@@ -157,6 +157,52 @@ entry_behind cap file at x h =
     (read_items cell_step 16 h.cells file (at + 56) (record { next = 0; header = begun x.header h })
     >>= λ given. read_changes file at h x.rows
     >>= λ rows. entry_ended cap file at h given rows)
+
+-- the steps in which an entry was read
+pub record EntrySteps (cap top : ℕ) (file : List ℕ) (at : ℕ) (x y : Logged) : Type 0 where
+  pub head : EntryHead
+  pub head_read : read_entry_head cap (fin.len x.rows) (top - at) (bytes_at file (at + 1) 55) ≡ Ok head
+  pub fresh : x.header.sequence + 1 < log_worn_from head.kind
+  pub given : Given
+  pub cells_read : read_items cell_step 16 head.cells file (at + 56)
+      (record { next = 0; header = begun x.header head }) ≡ Ok given
+  pub left : Rows
+  pub rows_read : read_changes file at head x.rows ≡ Ok left
+  pub gap_zeros : read_items gap_step 1 (entry_room head - entry_len head) file (at + entry_len head) tt
+      ≡ Ok tt
+  pub few : fin.len left ≤ cap
+  pub is : record { header = record given.header { count = fin.len left }; rows = left } ≡ y
+
+pub entry_steps : (cap top : ℕ) (file : List ℕ) (at : ℕ) (x y : Logged) → read_entry cap top file at x ≡ Ok y
+    → EntrySteps cap top file at x y
+entry_steps cap top file at x y read =
+    let bytes = bytes_at file (at + 1) 55 in
+    let a = bind_ok (placed_at at (read_entry_head cap (fin.len x.rows) (top - at) bytes))
+    (entry_behind cap file at x) y read in
+    let h = a.0 in
+    let g : Given = record { next = 0; header = begun x.header h } in
+    let b = guard_ok (nat_le (log_worn_from h.kind) (x.header.sequence + 1)) (codec fault.Worn at) _ y a.2 in
+    let c = bind_ok (read_items cell_step 16 h.cells file (at + 56) g)
+    (λ given. read_changes file at h x.rows >>= λ rows. entry_ended cap file at h given rows) y b.1 in
+    let given : Given = c.0 in
+    let d = bind_ok (read_changes file at h x.rows) (entry_ended cap file at h given) y c.2 in
+    let rows = d.0 in
+    let end : Logged = record { header = record given.header { count = fin.len rows }; rows = rows } in
+    let e = bind_ok (read_items gap_step 1 (entry_room h - entry_len h) file (at + entry_len h) tt)
+    (λ none. if nat_lt cap (fin.len rows) then Err (codec fault.Count at) else Ok end) y d.2 in
+    let f = guard_ok (nat_lt cap (fin.len rows)) (codec fault.Count at) (Ok end) y e.2 in
+    record {
+      head = h;
+      head_read = placed_ok at (read_entry_head cap (fin.len x.rows) (top - at) bytes) h a.1;
+      fresh = leb-false (log_worn_from h.kind) (x.header.sequence + 1) b.0;
+      given = given;
+      cells_read = c.1;
+      left = rows;
+      rows_read = d.1;
+      gap_zeros = e.1;
+      few = ltb-false cap (fin.len rows) f.0;
+      is = from_ok end y f.1;
+    }
 
 -- the spelling of an entry is read as it
 pub entry_read : (cap top : ℕ) (file : List ℕ) (at : ℕ) (x : Logged) (e : Entry) → cap < 2 ^ 64

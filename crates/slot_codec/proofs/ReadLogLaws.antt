@@ -2,24 +2,22 @@
 use Rattle.std.proofs.Common.{inl, inr, ◌≡◌, ℕ, suc, ◌+◌, ◌-◌, ◌/◌, ◌%◌, ◌<◌, ◌≤◌, ◌^◌, true, false, List, [], ◌∷◌, ◌++◌, length, refl, sym, ap, ◌∙◌, subst, arith}
 use Rattle.std.proofs.lemmas.Bool.{cases_Bool, cond-false, cond-true}
 use Rattle.std.specs.FinMap as fin
-use Rattle.std.specs.Prelude.{◌==◌, if◌then◌else◌, nat_le, nat_lt, Ok, Err}
+use Rattle.std.specs.Prelude.{◌==◌, if◌then◌else◌, nat_lt, Ok}
 use Rattle.byte_ranges.specs.Ranges.{SameWithin, bytes_at}
 use Rattle.byte_ranges.specs.Lists.{◌>>=◌}
 use Rattle.slot_codec.specs.Cells.{with_cell}
-use Rattle.slot_codec.specs.Choice.{codec, is_open, placed_at}
-use Rattle.slot_codec.specs.Entries.{Entry, entry_bytes, entry_head_bytes, entry_head_of, entry_len, entry_room, read_entry_head, up}
-use Rattle.slot_codec.specs.Items.{read_items}
-use Rattle.slot_codec.specs.Logs.{Given, IsEntry, IsLocal, Logged, Reading, after_entry, begun, cell_step, ends_closed, goes_on, log_end, log_step, log_worn_from, read_cell, gap_step, read_changes, read_entry, read_log, room_at, walk, with_given}
+use Rattle.slot_codec.specs.Choice.{is_open}
+use Rattle.slot_codec.specs.Entries.{Entry, entry_bytes, entry_head_bytes, entry_head_of, entry_room, up}
+use Rattle.slot_codec.specs.Logs.{Given, IsEntry, IsLocal, Logged, Reading, after_entry, begun, cell_step, ends_closed, goes_on, log_end, log_step, read_cell, read_entry, read_log, room_at, walk, with_given}
 use Rattle.slot_codec.specs.Spelling.{gate_open}
 use Rattle.slot_codec.specs.declared.codec.Header.{Header}
-use Rattle.slot_codec.specs.declared.codec.CodecFault.TheVariants as fault
 use Rattle.slot_codec.proofs.EntryLaws.{entry_head_read}
 use Rattle.slot_codec.proofs.EntryPlaceLaws.{head_read, len_of_head, log_step_local}
 use Rattle.slot_codec.proofs.ItemLaws.{items_keep}
 use Rattle.slot_codec.proofs.LogLaws.{IsPlace, entry_there, goes_on_from, walk_before, walk_beside, walk_closed, walk_ends, walk_grows, walk_more, walk_place, walk_relates, walk_same}
 use Rattle.slot_codec.proofs.PartLaws.{stands_bytes, stands_index, stands_right}
-use Rattle.slot_codec.proofs.ReadEntryLaws.{begins_with, head_stands, entry_behind, entry_ended, entry_read, length-entry_bytes, stands_from}
-use Rattle.slot_codec.proofs.StepLaws.{bind_ok, from_ok, guard_ok, placed_ok}
+use Rattle.slot_codec.proofs.ReadEntryLaws.{begins_with, head_stands, entry_read, entry_steps, length-entry_bytes, stands_from}
+use Rattle.slot_codec.proofs.StepLaws.{bind_ok, from_ok}
 
 -- ---- where it ends
 
@@ -27,13 +25,9 @@ use Rattle.slot_codec.proofs.StepLaws.{bind_ok, from_ok, guard_ok, placed_ok}
 pub entry_goes : (cap top : ℕ) (file : List ℕ) (at : ℕ) (x y : Logged) → read_entry cap top file at x ≡ Ok y
     → at + room_at file at < top
 entry_goes cap top file at x y read =
-    let count = fin.len x.rows in
-    let bytes = bytes_at file (at + 1) 55 in
-    let r = bind_ok (placed_at at (read_entry_head cap count (top - at) bytes))
-    (entry_behind cap file at x) y read in
-    let h = head_read cap count (top - at) bytes r.0
-    (placed_ok at (read_entry_head cap count (top - at) bytes) r.0 r.1) in
-    let is : room_at file at ≡ entry_room r.0 = ap up (sym (len_of_head file at)) ∙ ap entry_room h.is in
+    let p = entry_steps cap top file at x y read in
+    let h = head_read cap (fin.len x.rows) (top - at) (bytes_at file (at + 1) 55) p.head p.head_read in
+    let is : room_at file at ≡ entry_room p.head = ap up (sym (len_of_head file at)) ∙ ap entry_room h.is in
     omega (arith, is, h.within)
 
 -- a log that is read is gone through up to a closed gate
@@ -145,9 +139,6 @@ pub appended_room : (cap top : ℕ) (file : List ℕ) (at : ℕ) (x : Logged) (e
     → Appended cap top file at x e → room_at file at ≡ entry_room e.head
 appended_room cap top file at x e p =
     let count = fin.len x.rows in
-    let bytes = bytes_at file (at + 1) 55 in
-    let r = bind_ok (placed_at at (read_entry_head cap count (top - at) bytes)) (entry_behind cap file at x)
-    (after_entry x e) (appended_read cap top file at x e p) in
     let there = head_stands file (at + 1) e
     (begins_with file (at + 1) (entry_room e.head) (entry_bytes e) (0 ∷ []) p.text) in
     let h = head_read cap count (top - at) (entry_head_bytes e.head) e.head
@@ -226,23 +217,11 @@ pub entry_sequence : (cap top : ℕ) (file : List ℕ) (at : ℕ) (x y : Logged)
     → read_entry cap top file at x ≡ Ok y
     → y.header.sequence ≡ x.header.sequence + 1
 entry_sequence cap top file at x y read =
-    let bytes = bytes_at file (at + 1) 55 in
-    let a = bind_ok (placed_at at (read_entry_head cap (fin.len x.rows) (top - at) bytes))
-    (entry_behind cap file at x) y read in
-    let h = a.0 in
-    let g : Given = record { next = 0; header = begun x.header h } in
-    let b = guard_ok (nat_le (log_worn_from h.kind) (x.header.sequence + 1)) (codec fault.Worn at) _ y a.2 in
-    let c = bind_ok (read_items cell_step 16 h.cells file (at + 56) g)
-    (λ given. read_changes file at h x.rows >>= λ rows. entry_ended cap file at h given rows) y b.1 in
-    let given : Given = c.0 in
-    let d = bind_ok (read_changes file at h x.rows) (entry_ended cap file at h given) y c.2 in
-    let rows = d.0 in
-    let end : Logged = record { header = record given.header { count = fin.len rows }; rows = rows } in
-    let e = bind_ok (read_items gap_step 1 (entry_room h - entry_len h) file (at + entry_len h) tt)
-    (λ none. if nat_lt cap (fin.len rows) then Err (codec fault.Count at) else Ok end) y d.2 in
-    let f = guard_ok (nat_lt cap (fin.len rows)) (codec fault.Count at) (Ok end) y e.2 in
-    ap (λ (x : Logged). x.header.sequence) (sym (from_ok end y f.1))
-    ∙ items_keep cell_step (λ g. g.header.sequence) cell_step-sequence 16 h.cells file (at + 56) g given c.1
+    let p = entry_steps cap top file at x y read in
+    let g : Given = record { next = 0; header = begun x.header p.head } in
+    ap (λ (x : Logged). x.header.sequence) (sym p.is)
+    ∙ items_keep cell_step (λ g. g.header.sequence) cell_step-sequence 16 p.head.cells file (at + 56) g
+    p.given p.cells_read
 
 -- a table that was read has the sequence of the first one and so many more
 abbrev Counts : ℕ → Reading → ℕ → Type 0

@@ -1,18 +1,17 @@
 -- A record has one spelling, and reading is its inverse.
-use Rattle.std.proofs.Common.{◌≡◌, ◌↔◌, ℕ, ◌+◌, ◌-◌, ◌<◌, ◌≤◌, ◌^◌, ◌==◌, true, false, not, ◌&&◌, ◌||◌, inl, inr, List, [], ◌∷◌, ◌++◌, length, take, refl, sym, ap, ◌∙◌, subst, arith, drop-cons, length-append}
-use Rattle.std.proofs.lemmas.Bool.{and_from, and_parts, le-ltb, lt-ltb, ltb-false, ltb-true, not-false, not_from_true, or_from, or_parts, cases_Bool, cond-true, cond-false}
+use Rattle.std.proofs.Common.{◌≡◌, ◌↔◌, ℕ, ◌+◌, ◌-◌, ◌<◌, ◌≤◌, ◌^◌, true, false, not, ◌&&◌, inl, inr, List, [], ◌∷◌, ◌++◌, length, refl, sym, ap, ◌∙◌, subst, arith, length-append}
+use Rattle.std.proofs.lemmas.Bool.{and_from, and_parts, lt-ltb, ltb-true, not-false, not_from_true, cases_Bool, cond-true, cond-false}
 use Rattle.std.proofs.lemmas.List.{append-nil, take_all, length-replicate}
-use Rattle.byte_ranges.specs.Lists.{◌>>=◌}
 use Rattle.std.specs.Prelude.{if◌then◌else◌, Ok, Err}
 use Rattle.byte_ranges.specs.Ranges.{bytes_at}
 use Rattle.byte_ranges.proofs.RangeLaws.{length-bytes_at}
 use Rattle.slot_codec.specs.Names.{IsName, name_bytes}
 use Rattle.slot_codec.proofs.NameLaws.{NameParts, name_from_parts, name_front, name_is, name_named, name_parts, name_stands}
 use Rattle.slot_codec.proofs.NameLemmas.{name_short}
-use Rattle.slot_codec.proofs.PartLaws.{StandsAt, bytes_at-more, number_spelled, same_joined, stands_bytes, stands_index, stands_left, stands_number, stands_right, stands_whole, zeros_are_zeros, zeros_spelled}
+use Rattle.slot_codec.proofs.PartLaws.{StandsAt, bytes_at-more, number_spelled, stands_bytes, stands_left, stands_number, stands_right, stands_whole}
 use Rattle.slot_codec.proofs.CapLaws.{record_len-long, record_len-low, record_len-short}
 use Rattle.slot_codec.specs.Readable.{IsDigest, IsRecord}
-use Rattle.slot_codec.specs.Reading.{are_zeros, digest_at, is_in_range, number_at, read_name, read_record, record_of}
+use Rattle.slot_codec.specs.Reading.{digest_at, is_in_range, number_at, read_name, read_record, record_of}
 use Rattle.slot_codec.specs.Spelling.{AreBytes, digest_bytes, has_digests, number, record_bytes, record_len, zeros}
 use Rattle.slot_codec.proofs.StepLaws.{bind_from, bind_ok, from_ok, guard_from, guard_ok}
 use Rattle.slot_codec.specs.declared.codec.Record.{Record}

@@ -12,7 +12,7 @@ use Rattle.slot_codec.specs.declared.codec.Record.{Record}
 use Rattle.slot_codec.proofs.RollLaws.{RiseFrom, name_lt-trans, rise_from_roll}
 use Rattle.slot_codec.specs.Rows.{Rows, by_name, rows_of}
 
-names_differ : fin.IsAntisymmetric name_cmp
+pub names_differ : fin.IsAntisymmetric name_cmp
 names_differ = fin.slice_cmp-IsAntisymmetric fin.nat_cmp-IsAntisymmetric
 
 below_true : (k j : List ℕ) → ((n : List ℕ) → is_lt (name_cmp j n) ≡ true → is_lt (name_cmp k n) ≡ true)

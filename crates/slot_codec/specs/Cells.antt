@@ -1,5 +1,5 @@
 -- The cells of a header: its 32 capacities, and 32 numbers for each of its 32 buffers, counted through.
-use Rattle.std.specs.Prelude.{ℕ, ◌+◌, ◌-◌, ◌*◌, ◌/◌, ◌%◌, ◌==◌, nat_lt, Bool, not, if◌then◌else◌, List, [], filter, map, replicate, slice_index, slice_index_or, slice_set}
+use Rattle.std.specs.Prelude.{ℕ, ◌-◌, ◌/◌, ◌%◌, ◌==◌, nat_lt, not, if◌then◌else◌, List, [], filter, map, replicate, slice_index, slice_index_or, slice_set}
 use Rattle.byte_ranges.specs.Lists.{below}
 use Rattle.slot_codec.specs.declared.codec.Header.{Header}
 

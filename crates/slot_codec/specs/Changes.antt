@@ -1,5 +1,5 @@
 -- What became of names since the last checkpoint, as an entry's three lists have it.
-use Rattle.std.specs.Prelude.{ℕ, ◌+◌, ◌≤◌, List, [], ◌∷◌, ◌++◌, length, flat_map}
+use Rattle.std.specs.Prelude.{ℕ, ◌≤◌, List, [], ◌∷◌, length}
 use Rattle.slot_codec.specs.Entries.{pair_bytes}
 use Rattle.slot_codec.specs.Names.{name_bytes}
 use Rattle.slot_codec.specs.Spelling.{record_bytes}

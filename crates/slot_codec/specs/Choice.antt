@@ -6,7 +6,7 @@ use Rattle.byte_ranges.specs.Ranges.{bytes_at}
 use Rattle.byte_ranges.specs.Lists.{◌>>=◌}
 use Rattle.slot_codec.specs.Names.{name_cmp}
 use Rattle.slot_codec.specs.Spelling.{digest_len, format_gate_at, gate_at, gate_open, has_digests, head_len, header_len, record_len, slot_at, superblock_len, zeros}
-use Rattle.slot_codec.specs.Reading.{number_at, read_superblock, read_header, read_record}
+use Rattle.slot_codec.specs.Reading.{header_in, number_at, read_record, superblock_in}
 use Rattle.slot_codec.specs.declared.codec.SuperBlock.{SuperBlock}
 use Rattle.slot_codec.specs.declared.codec.Header.{Header}
 use Rattle.slot_codec.specs.declared.codec.Record.{Record}
@@ -52,15 +52,19 @@ pick block true true first second =
     else
     Ok (record { block = block; slot = 1; sequence = second; other_open = true })
 
--- The slot in use: by the length, the superblock, the three gates and the two sequences.
-abbrev pub slot_in_use : List ℕ → Result InUse SlotRefusal
-slot_in_use file =
+-- The slot in use of a file whose slots have logs or have none: by the length, the superblock, the three
+-- gates and the two sequences.
+abbrev pub slot_in : Bool → List ℕ → Result InUse SlotRefusal
+slot_in logged file =
     if nat_lt (length file) superblock_len then Err too_short else
-    (placed_at 0 (read_superblock (bytes_at file 0 superblock_len)) >>= λ block.
+    (placed_at 0 (superblock_in logged (bytes_at file 0 superblock_len)) >>= λ block.
     if nat_lt (length file) (head_len block.names) then Err too_short else
     if not (is_open file (format_gate_at block.names)) then Err unformatted else
     pick block (is_open file (gate_at block.names 0)) (is_open file (gate_at block.names 1))
     (sequence_at file block.names 0) (sequence_at file block.names 1))
+
+abbrev pub slot_in_use : List ℕ → Result InUse SlotRefusal
+slot_in_use file = slot_in false file
 
 -- The slot in use with its header.
 pub record Chosen : Type 0 where
@@ -68,13 +72,16 @@ pub record Chosen : Type 0 where
   pub slot : ℕ
   pub header : Header
 
-abbrev pub chosen : List ℕ → Result Chosen SlotRefusal
-chosen file =
-    slot_in_use file >>= λ in_use.
+abbrev pub chosen_in : Bool → List ℕ → Result Chosen SlotRefusal
+chosen_in logged file =
+    slot_in logged file >>= λ in_use.
     placed_at (slot_at in_use.block.names in_use.slot)
-    (read_header in_use.block.names (bytes_at file (slot_at in_use.block.names in_use.slot) header_len))
+    (header_in logged in_use.block.names (bytes_at file (slot_at in_use.block.names in_use.slot) header_len))
     >>= λ header.
     Ok (record { block = in_use.block; slot = in_use.slot; header = header })
+
+abbrev pub chosen : List ℕ → Result Chosen SlotRefusal
+chosen file = chosen_in false file
 
 -- a name is greater than the one before it, if there is one
 abbrev pub rises : Option (List ℕ) → List ℕ → Bool

@@ -1,5 +1,5 @@
 -- Items of one length that stand one behind another in a file, each of which is a step.
-use Rattle.std.specs.Prelude.{◌≡◌, ℕ, zero, suc, ◌+◌, List, [], ◌∷◌, length, Result, Ok}
+use Rattle.std.specs.Prelude.{ℕ, zero, suc, ◌+◌, List, [], ◌∷◌, Result, Ok}
 use Rattle.byte_ranges.specs.Ranges.{bytes_at}
 use Rattle.byte_ranges.specs.Lists.{◌>>=◌}
 use Rattle.slot_codec.specs.Choice.{SlotRefusal, placed_at}

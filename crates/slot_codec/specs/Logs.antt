@@ -1,20 +1,19 @@
 -- The log of a slot: entries one behind another, each with a gate in front, up to the first closed gate. No
 -- file of the program has one yet.
-use Rattle.std.specs.Prelude.{◌≡◌, ℕ, zero, suc, ◌+◌, ◌-◌, ◌*◌, ◌/◌, ◌^◌, ◌<◌, ◌≤◌, ◌==◌, ◌&&◌, ◌||◌, nat_le, nat_lt, Bool, not, if◌then◌else◌, List, length, Result, Ok, Err}
+use Rattle.std.specs.Prelude.{◌≡◌, ℕ, zero, suc, ◌+◌, ◌-◌, ◌*◌, ◌/◌, ◌^◌, ◌<◌, ◌≤◌, ◌==◌, ◌&&◌, ◌||◌, nat_le, nat_lt, Bool, true, not, if◌then◌else◌, List, length, Result, Ok, Err}
 use Rattle.std.specs.FinMap as fin
 use Rattle.byte_ranges.specs.Ranges.{SameWithin, bytes_at}
 use Rattle.byte_ranges.specs.Lists.{◌>>=◌}
 use Rattle.slot_codec.specs.Cells.{header_cells, with_cell, without_cells}
-use Rattle.slot_codec.specs.Choice.{SlotRefusal, codec, is_open, placed_at}
+use Rattle.slot_codec.specs.Choice.{Chosen, SlotRefusal, SlotTable, chosen_in, codec, is_open, placed_at, records_at, records_of, table_of, table_with}
 use Rattle.slot_codec.specs.Entries.{Entry, IsEntryHead, entry_len, entry_room, gone_from, moved_from, pair_at, puts_from, read_entry_head, up}
 use Rattle.slot_codec.specs.Items.{AreItems, after_items, read_items}
-use Rattle.slot_codec.specs.Reading.{are_zeros, is_in_range, number_at, read_name, read_record}
-use Rattle.slot_codec.specs.Rows.{AreChanges, Rows, changed_rows, moved_row, with_row}
-use Rattle.slot_codec.specs.Spelling.{gate_at, header_len, slot_at}
+use Rattle.slot_codec.specs.Reading.{are_zeros, is_in_range, is_logged, log_worn_from, number_at, read_name, read_record}
+use Rattle.slot_codec.specs.Rows.{AreChanges, Rows, changed_rows, moved_row, rows_of, with_row}
+use Rattle.slot_codec.specs.Spelling.{cap, gate_at, header_len, slot_at}
 use Rattle.slot_codec.specs.declared.entry.EntryHead.{EntryHead}
 use Rattle.slot_codec.specs.declared.codec.Header.{Header}
-use Rattle.slot_codec.specs.declared.codec.Kind.{Kind}
-use Rattle.slot_codec.specs.declared.codec.Kind.TheVariants.{Settled, Moving}
+use Rattle.slot_codec.specs.declared.codec.Record.{Record}
 use Rattle.slot_codec.specs.declared.codec.CodecFault.{CodecFault}
 use Rattle.slot_codec.specs.declared.codec.CodecFault.TheVariants as fault
 
@@ -35,11 +34,6 @@ log_top names slot = gate_at names slot / 512 * 512
 pub record Logged : Type 0 where
   pub header : Header
   pub rows : Rows
-
--- where a sequence of a log is worn: earlier for a moving table, since its opening saves again
-abbrev pub log_worn_from : Kind → ℕ
-log_worn_from Settled = 2 ^ 62
-log_worn_from Moving = 2 ^ 62 - 2 ^ 26
 
 -- the header behind an entry's head, before its cells
 abbrev pub begun : Header → EntryHead → Header
@@ -195,3 +189,35 @@ read_log cap top file at x =
 -- how many entries a log has by its gates and heads alone, and where the next one would stand
 unfoldable pub log_end : List ℕ → ℕ → ℕ → ℕ × ℕ
 log_end file top at = walk (λ (file : List ℕ) (at n : ℕ). n + 1) (top / 512) file top at 0
+
+-- ---- the table of a file whose slots have logs
+
+-- The table behind the log of a slot with these records, where its first gate stands below the top; the bytes
+-- in front of this gate are zeros.
+abbrev pub behind_log : List ℕ → Chosen → List Record → Result Logged SlotRefusal
+behind_log file c records =
+    let names = c.block.names in
+    let top = log_top names c.slot in
+    let first = first_gate names c.slot c.header.count in
+    let end = records_at c + 112 * c.header.count in
+    let x : Logged = record { header = c.header; rows = rows_of records } in
+    if not (nat_lt first top) then Ok x else
+    (read_items gap_step 1 (first - end) file end tt >>= λ none.
+    read_log (cap names 3) top file first x >>= λ p.
+    Ok p.0)
+
+-- the table of a file whose slots have logs: that behind the log of the slot in use
+unfoldable pub logged_table_of : List ℕ → Result SlotTable SlotRefusal
+logged_table_of file =
+    chosen_in true file >>= λ c.
+    records_of file c >>= λ records.
+    behind_log file c records >>= λ x.
+    Ok (table_with (record c { header = x.header }) (fin.values x.rows))
+
+-- the table of a file whose slots have logs or have none
+abbrev pub table_in : Bool → List ℕ → Result SlotTable SlotRefusal
+table_in logged file = if logged then logged_table_of file else table_of file
+
+-- the table of a file, by its mark
+abbrev pub read_table_of : List ℕ → Result SlotTable SlotRefusal
+read_table_of file = table_in (is_logged file) file

@@ -1,5 +1,5 @@
 -- The records of a table by their names, and what an entry's lists make of them.
-use Rattle.std.specs.Prelude.{ℕ, ◌≡◌, ◌^◌, ◌<◌, List, map, Option, Some, None, slice_get, IsTrue}
+use Rattle.std.specs.Prelude.{ℕ, ◌^◌, ◌<◌, List, map, Option, Some, None, slice_get, IsTrue}
 use Rattle.std.specs.FinMap as fin
 use Rattle.slot_codec.specs.Names.{IsName, name_cmp}
 use Rattle.slot_codec.specs.Items.{AreItems, after_items}

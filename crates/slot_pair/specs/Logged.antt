@@ -8,7 +8,8 @@ use Rattle.disk_face.specs.States.{State}
 use Rattle.slot_codec.specs.Changes.{AreFew, Change, gone_of, moves_of, puts_of}
 use Rattle.slot_codec.specs.Choice.{is_open}
 use Rattle.slot_codec.specs.Entries.{Entry, entry_room}
-use Rattle.slot_codec.specs.Logs.{IsEntry, Logged, after_entry, log_worn_from, read_log}
+use Rattle.slot_codec.specs.Logs.{IsEntry, Logged, after_entry, read_log}
+use Rattle.slot_codec.specs.Reading.{log_worn_from}
 use Rattle.slot_codec.specs.Readable.{IsFull}
 use Rattle.slot_codec.specs.Rows.{AreChanges, changed_rows, rows_of}
 use Rattle.slot_codec.specs.declared.codec.Header.{Header}

@@ -1,14 +1,15 @@
 //! Writing the table of a slot that is to have a log behind it: a header of version 3, its records, and the
 //! zeros behind them up to the first gate of the log, which is closed. No file of the program has one yet.
-ghost use Rattle.std.specs.Prelude.{◌≡◌, ◌++◌, ◌+◌, ◌-◌, ◌*◌, ◌/◌, ◌^◌, ◌<◌, ◌≤◌, Ok, OnOk, IsTrue, false, flat_map, length, take, true};
+ghost use Rattle.std.specs.Prelude.{◌≡◌, ◌++◌, ◌+◌, ◌-◌, ◌*◌, ◌/◌, ◌^◌, ◌<◌, ◌≤◌, Ok, OnOk, IsTrue, false, flat_map, if◌then◌else◌, length, take, true};
 ghost use Rattle.byte_ranges.specs.Ranges.{bytes_at, overwritten};
-ghost use Rattle.slot_codec.specs.{Choice.{is_open, slot_in_use}, Spelling.{gate_at, head_len, header_len, record_bytes, zeros}};
+ghost use Rattle.slot_codec.specs.{Choice.{is_open}, Spelling.{gate_at, head_len, header_len, record_bytes, zeros}};
 ghost use Rattle.disk_face.specs.{Counts.{HasCause, counted}, Frames.{Asks, Calls, Unchanged, call_weight}, Moments.{Rests}, Writes.{WritesWithin}};
-ghost use Rattle.slot_pair.specs.{Bases.{HasBase, base_calls, base_len, closing_calls, lead_len}, Finding.{IsSlot, in_use_of}};
+ghost use Rattle.slot_pair.specs.{Bases.{HasBase, base_calls, base_len, closing_calls, lead_len}, Finding.{IsSlot}};
 
 use crate::Found;
 use crate::body::{RECORDS_A_WRITE, put_header, put_pieces, spell_header, spell_records};
-use crate::save::close_other;
+use crate::places::gate_at;
+use crate::save::write_and_sync;
 use disk_face::{Disk, DiskFault};
 use slot_codec::{DIGEST_LEN, HEADER_LEN, Header, RECORD_LEN, Roll, up};
 
@@ -25,8 +26,8 @@ pub fn close_if_open<D: Disk>(disk: &mut D, found: &Found) -> Result<(), DiskFau
     requires slot { IsSlot found.now }
     requires within { IsTrue (D.state disk.old).tells
         → head_len found.now.block.names ≤ length (D.state disk.old).file }
-    requires in_use { IsTrue (D.state disk.old).tells
-        → slot_in_use (D.state disk.old).file ≡ Ok (in_use_of found.now) }
+    requires other { IsTrue (D.state disk.old).tells → found.now.other_open
+        ≡ is_open (D.state disk.old).file (gate_at found.now.block.names (1 - found.now.slot)) }
     ensures closed { IsTrue (D.state disk.old).tells
         → OnOk result (is_open (D.state disk.new).file (gate_at found.now.block.names (1 - found.now.slot))
         ≡ false) }
@@ -36,10 +37,11 @@ pub fn close_if_open<D: Disk>(disk: &mut D, found: &Found) -> Result<(), DiskFau
     ensures writes { WritesWithin (gate_at found.now.block.names (1 - found.now.slot)) 1 (D.state disk.old)
         (D.state disk.new) }
     ensures calls { Calls (closing_calls found.now.other_open) (D.state disk.old) (D.state disk.new) result }
-    ensures asks { Asks 42 0 (D.state disk.old) (D.state disk.new) }
+    ensures asks { Asks (if found.now.other_open then 35 else 0) 0 (D.state disk.old) (D.state disk.new) }
 {
     if found.other_open {
-        close_other(disk, found)
+        let gate = gate_at(found.block.names, 1 - found.slot);
+        write_and_sync(disk, gate, &[0])
     } else {
         Ok(())
     }

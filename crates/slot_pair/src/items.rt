@@ -4,8 +4,8 @@ ghost use Rattle.slot_codec.specs.{Cells.{header_cells}, Changes.{change_len}, E
 ghost use Rattle.slot_pair.specs.{Appends.{head_for}, Pieces.{bytes_among, cell_bytes, end_bytes, entry_items}};
 
 use slot_codec::{
-    ChangeKind, DIGEST_LEN, Delta, ENTRY_HEAD_LEN, EntryHead, HEADER_CELLS, Header, Name, PAIR_LEN,
-    RECORD_LEN, write_entry_head, write_pair,
+    ChangeKind, DIGEST_LEN, Delta, ENTRY_HEAD_LEN, EntryHead, HEADER_CELLS, Header, NAME_LEN,
+    PAIR_LEN, RECORD_LEN, write_entry_head, write_pair,
 };
 
 /// How many items an entry has, where so many changes are counted.
@@ -97,7 +97,7 @@ fn len_of(kind: ChangeKind) -> usize
     match kind {
         ChangeKind::Same => 0,
         ChangeKind::Moved => PAIR_LEN,
-        ChangeKind::Gone => 1 + Name::LONGEST,
+        ChangeKind::Gone => NAME_LEN,
         ChangeKind::Put => RECORD_LEN + DIGEST_LEN,
     }
 }

@@ -1,18 +1,17 @@
 //! Where the log of a slot ends, by its gates and heads alone. No file of the program has a log yet.
 ghost use Rattle.std.specs.Prelude.{◌≡◌, ◌+◌, ◌^◌, ◌<◌, ◌≤◌, Some, None, Err, IfOk, IfSome, IsTrue, OnErr, if◌then◌else◌, length, nat_lt};
 ghost use Rattle.disk_face.specs.Frames.{Unchanged};
-ghost use Rattle.slot_codec.specs.{Logs.{goes_on, log_end, room_at}, Reading.{number_at}};
+ghost use Rattle.slot_codec.specs.{Logs.{goes_on, log_end, room_at}};
 ghost use Rattle.slot_pair.specs.{Finding.{HasDiskCause}, LogEnds.{IsLogEnd, IsRoom}};
 
 use crate::SlotFault;
 use disk_face::{Disk, read};
-use slot_codec::{DIGEST_LEN, ENTRY_HEAD_LEN, GATE_OPEN, PAIR_LEN, RECORD_LEN, up};
+use slot_codec::{
+    DIGEST_LEN, ENTRY_HEAD_LEN, GATE_OPEN, NAME_LEN, PAIR_LEN, RECORD_LEN, number_at, up,
+};
 
 /// What an entry begins with, from its gate to the last of its four counts, has so many bytes.
 const COUNTS_END: usize = 40;
-
-/// The length of a name in an entry.
-const NAME_LEN: u64 = 64;
 
 /// Where a log ends.
 #[derive(Clone, Copy, Debug, PartialEq, Eq)]
@@ -80,28 +79,18 @@ fn room_below(start: &[u8], most: u64) -> Option<u64>
     requires high { most ≤ 2 ^ 48 }
     ensures { result ≡ (if nat_lt (room_at start.now 0) most then Some (room_at start.now 0) else None) }
 {
-    let cells = count_at(start, 8);
-    let moved = count_at(start, 16);
-    let gone = count_at(start, 24);
-    let puts = count_at(start, 32);
+    let cells = number_at(start, 8);
+    let moved = number_at(start, 16);
+    let gone = number_at(start, 24);
+    let puts = number_at(start, 32);
     if most <= cells || most <= moved || most <= gone || most <= puts {
         return None;
     }
     let room = up(
         1 + ENTRY_HEAD_LEN as u64
             + PAIR_LEN as u64 * (cells + moved)
-            + NAME_LEN * gone
+            + NAME_LEN as u64 * gone
             + (RECORD_LEN + DIGEST_LEN) as u64 * puts,
     );
     if room < most { Some(room) } else { None }
-}
-
-/// The count at a position of an entry.
-fn count_at(start: &[u8], at: usize) -> u64
-    requires { at + 8 ≤ length start.now }
-    ensures { result ≡ number_at start.now at }
-{
-    let mut number = [0u8; 8];
-    number.copy_from_slice(&start[at..at + 8]);
-    u64::from_le_bytes(number)
 }

@@ -1,28 +1,41 @@
-//! A worked log: what three entries lead to, and which fault one other byte is. No file of the program has a
-//! log yet.
-ghost use Rattle.std.specs.Prelude.{◌≡◌, ◌<◌, IsTrue, length};
-ghost use Rattle.slot_codec.specs.Reading.{all_in_range, worn_from};
-ghost use Rattle.reopen.specs.Logs.{IsMaking};
+//! A worked file whose slots have logs: what three entries lead to, and which fault one other byte is. No command
+//! makes such a file yet.
+ghost use Rattle.std.specs.Prelude.{◌≡◌, length};
 
 use crate::requests::try_holds;
 use disk_mem::MemDisk;
-use extent_table::{BulkLoad, Spot, Table};
-use reopen::read_log;
-use slot_codec::{CodecFault, HEADER_LEN, Header, Name, read_header};
+use extent_table::Spot;
+use reopen::{BoxedLoaded, OpenFault, load_by_mark};
+use size_class::CLASSES;
+use slot_codec::{CodecFault, Name};
 use slot_pair::SlotFault;
 use std::alloc::Global;
 use std::process::Abort;
 
-/// Where the first gate of the log of slot 0 stands in a file with room for 32 names, 64 + 8,488 bytes up to a
-/// multiple of 512, and the multiple of 512 that isn't above the slot's gate at 11,112.
-const FIRST: u64 = 8_704;
+/// How long the file is: a head of 22,163 bytes with room for 32 names, and a data part of 254.
+const LENGTH: usize = 22_417;
 
-const TOP: u64 = 10_752;
+/// The bytes in front of the log, and the gates, that aren't 0: the mark, K 9, 32 names; in slot 0 a header of
+/// version 3 and sequence 1, and no records.
+const BASE: &[(usize, u8)] = &[
+    (0, b'C'),
+    (1, b'O'),
+    (2, b'S'),
+    (3, b'T'),
+    (4, b'L'),
+    (5, b'O'),
+    (6, b'G'),
+    (7, b'1'),
+    (8, 9),
+    (16, 32),
+    (64, 3),
+    (72, 1),
+    (11_112, 0xA5),
+    (22_162, 0xA5),
+];
 
-/// How many records its slot may have.
-const CAP: u64 = 16;
-
-/// The bytes of the log that aren't 0.
+/// The bytes of the log that aren't 0. Its first gate stands at 8,704, which is 64 + 8,488 up to a multiple of
+/// 512, and it must end below 10,752, the multiple of 512 that isn't above the slot's gate.
 const ENTRIES: &[(usize, u8)] = &[
     // At 8,704 the entry of 184 bytes puts `a` of 100 bytes at 0. Class 6 has a capacity of 100.
     (8_704, 0xA5),
@@ -100,6 +113,8 @@ const ITEMS: &[Fault] = &[
 ];
 
 const GAPS: &[Fault] = &[
+    (8_552, 1, CodecFault::Zeros, 8_552),
+    (8_703, 1, CodecFault::Zeros, 8_703),
     (8_888, 1, CodecFault::Zeros, 8_888),
     (9_512, 1, CodecFault::Zeros, 9_512),
     (9_727, 9, CodecFault::Zeros, 9_727),
@@ -107,13 +122,24 @@ const GAPS: &[Fault] = &[
     (10_239, 9, CodecFault::Zeros, 10_239),
 ];
 
-/// A position, another byte there, where the log ends then, its sequence, and how many names it leads to.
-const ENDS: &[(usize, u8, u64, u64, u64)] = &[
-    (8_704, 0xA5, 10_240, 4, 3),
-    (10_241, 1, 10_240, 4, 3),
-    (9_728, 7, 9_728, 3, 3),
-    (9_216, 0, 9_216, 2, 1),
-    (8_704, 0xA4, 8_704, 1, 0),
+/// Faults in front of the log.
+const BASES: &[Fault] = &[
+    (5, b'I', CodecFault::Magic, 0),
+    (16, 31, CodecFault::Params, 0),
+    (24, 1, CodecFault::Zeros, 0),
+    (64, 1, CodecFault::Version, 64),
+    (64, 2, CodecFault::Version, 64),
+    (80, 17, CodecFault::Count, 64),
+];
+
+/// A position, another byte there, and of the table that the log leads to then its sequence, and how many names
+/// it has.
+const ENDS: &[(usize, u8, u64, u64)] = &[
+    (8_704, 0xA5, 4, 3),
+    (10_241, 1, 4, 3),
+    (9_728, 7, 3, 3),
+    (9_216, 0, 2, 1),
+    (8_704, 0xA4, 1, 0),
 ];
 
 /// Puts a byte at a position, if the bytes have it.
@@ -125,9 +151,12 @@ fn put(bytes: &mut [u8], at: usize, byte: u8)
     }
 }
 
-/// The bytes of the log, but for one.
-fn log_bytes(rt: &impl Abort, alloc: Global, at: usize, byte: u8) -> Vec<u8> {
-    let mut bytes = vec![in alloc; 0u8; TOP as usize].expect(rt, "memory");
+/// The bytes of the file, but for one.
+fn file_bytes(rt: &impl Abort, alloc: Global, at: usize, byte: u8) -> Vec<u8> {
+    let mut bytes = vec![in alloc; 0u8; LENGTH].expect(rt, "memory");
+    'base: for (at, byte) in BASE {
+        put(&mut bytes, *at, *byte);
+    }
     'entries: for (at, byte) in ENTRIES {
         put(&mut bytes, *at, *byte);
     }
@@ -135,58 +164,33 @@ fn log_bytes(rt: &impl Abort, alloc: Global, at: usize, byte: u8) -> Vec<u8> {
     bytes
 }
 
-/// The header of the table before the log: version 3, sequence 1, and all else 0.
-fn base(rt: &impl Abort) -> Header
-    ensures fresh { result.sequence < worn_from result.kind }
-    ensures ranges { IsTrue (all_in_range result) }
-    ensures count { result.count ≡ 0 }
-{
-    let mut bytes = [0u8; HEADER_LEN];
-    bytes[0] = 1;
-    bytes[8] = 1;
-    let header = read_header(&bytes, 16).expect(rt, "a header");
-    assert!(rt; header.count == 0);
-    Header {
-        version: 3,
-        ..header
-    }
-}
-
-/// The table before the log: its header, and a table in the making that has no names.
-fn start(rt: &impl Abort, alloc: Global) -> (Header, BulkLoad)
-    ensures { IsMaking 16 result.0 result.1 }
-{
-    let header = base(rt);
-    let load = BulkLoad::with_room(alloc, CAP).expect(rt, "memory");
-    (header, load)
-}
-
-/// A log that was gone through: where it ends or why it is refused, and the header and the table behind it.
-#[derive(Drop)]
-struct Log {
-    end: Result<u64, SlotFault>,
-    header: Header,
-    load: BulkLoad,
-}
-
-/// Goes through the log, but for one byte.
-fn read(rt: &impl Abort, alloc: Global, at: usize, byte: u8) -> Log {
-    let bytes = log_bytes(rt, alloc, at, byte);
-    assert!(rt; TOP <= bytes.len() as u64);
+/// Reads the file, but for one byte.
+fn read(
+    rt: &impl Abort,
+    alloc: Global,
+    at: usize,
+    byte: u8,
+) -> Result<BoxedLoaded<CLASSES>, OpenFault> {
+    let bytes = file_bytes(rt, alloc, at, byte);
     let mut disk = MemDisk::from_bytes(alloc, &bytes).expect(rt, "memory");
-    let (mut header, mut load) = start(rt, alloc);
-    let mut buf = vec![in alloc; 0u8; 57_344].expect(rt, "memory");
-    let end = read_log(&mut disk, FIRST, TOP, CAP, &mut header, &mut load, &mut buf);
-    Log { end, header, load }
+    load_by_mark(alloc, &mut disk)
 }
 
 /// Tries rows of faults.
 fn try_faults(rt: &impl Abort, alloc: Global, rows: &[Fault]) {
     'rows: for row in rows {
         let (at, byte, fault, shown) = *row;
-        let log = read(rt, alloc, at, byte);
-        try_holds(rt, log.end == Err(SlotFault::Codec(fault, shown)), row);
+        let expected = OpenFault::Slot(SlotFault::Codec(fault, shown));
+        match read(rt, alloc, at, byte) {
+            Ok(_) => try_holds(rt, false, row),
+            Err(found) => try_holds(rt, found == expected, row),
+        }
     }
+}
+
+#[test]
+fn what_stands_before_a_log_is_judged(rt: HostRuntime) {
+    try_faults(&rt, rt.alloc(), BASES);
 }
 
 #[test]
@@ -200,21 +204,22 @@ fn items_of_entries_are_judged(rt: HostRuntime) {
 }
 
 #[test]
-fn gaps_behind_entries_are_judged(rt: HostRuntime) {
+fn gaps_in_front_of_gates_are_judged(rt: HostRuntime) {
     try_faults(&rt, rt.alloc(), GAPS);
 }
 
 #[test]
 fn logs_end_at_a_gate_that_is_not_open(rt: HostRuntime) {
     'rows: for row in ENDS {
-        let (at, byte, end, sequence, count) = *row;
-        let log = read(&rt, rt.alloc(), at, byte);
-        let same = log.end == Ok(end) && log.header.sequence == sequence;
-        try_holds(
-            &rt,
-            same && log.header.count == count && log.load.count() == count,
-            row,
-        );
+        let (at, byte, sequence, count) = *row;
+        match read(&rt, rt.alloc(), at, byte) {
+            Ok(found) => {
+                let header = &*found.header;
+                let same = header.sequence == sequence && header.count == count;
+                try_holds(&rt, same && found.table.count() == count, row);
+            }
+            Err(_) => try_holds(&rt, false, row),
+        }
     }
 }
 
@@ -233,10 +238,13 @@ const SPOTS: &[(&str, Spot)] = &[
 
 #[test]
 fn a_log_leads_to_its_objects(rt: HostRuntime) {
-    let Log { load, .. } = read(&rt, rt.alloc(), 0, 0);
-    let table = load.into_table();
-    'spots: for row in SPOTS {
-        let name = Name::new(row.0.as_bytes()).expect(&rt, "a name");
-        try_holds(&rt, table.get(&name) == Some(row.1), row);
+    match read(&rt, rt.alloc(), 8_704, 0xA5) {
+        Ok(found) => {
+            'spots: for row in SPOTS {
+                let name = Name::new(row.0.as_bytes()).expect(&rt, "a name");
+                try_holds(&rt, found.table.get(&name) == Some(row.1), row);
+            }
+        }
+        Err(_) => try_holds(&rt, false, &SPOTS),
     }
 }

@@ -7,4 +7,4 @@ dump_table-requires-clause-small g c = loaded_sizes c.args.loaded.now c.requires
 pub dump_table-requires-clause-within : goal.dump_table-requires-clause-within
 dump_table-requires-clause-within g c = λ told.
     loaded_within (g.D.Disk.state c.args.disk.now).file c.args.loaded.now c.requires.loaded
-    (c.requires.from told)
+    (c.requires.from told).opens

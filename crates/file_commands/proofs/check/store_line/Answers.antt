@@ -1,7 +1,7 @@
 use Rattle.std.proofs.Common.{◌≡◌, ◌∙◌, IsTrue, Ok, ap, inr, length, rules, subst, sym}
 use Rattle.std.specs.Prelude.{None}
 use Rattle.reopen.specs.Loads.{table_seen, unboxed}
-use Rattle.command_face.specs.Refusing.{IsRefused}
+use Rattle.command_face.specs.Refusing.{IsNotRead}
 use Rattle.file_commands.specs.Texts.{IsChecked, check_text}
 use Rattle.file_commands.proofs.AnswerLaws.{stops_more}
 use Rattle.file_commands.proofs.TextLaws.{told_of}
@@ -11,7 +11,7 @@ use Rattle.file_commands.proofs.check.store_line.Goals as goal
 pub returns-in_err-loaded-clause-stopped : goal.returns-in_err-loaded-clause-stopped
 returns-in_err-loaded-clause-stopped g c = λ told.
     let file = (g.D.Disk.state c.args.disk.now).file in
-    let all = stops_more (IsRefused file) (IsChecked file) (λ answer is. inr is) c.in_err-loaded.field-0.0
+    let all = stops_more (IsNotRead file) (IsChecked file) (λ answer is. inr is) c.in_err-loaded.field-0.0
     (c.in_err-loaded.ensures.stopped told) in
     search rules
 

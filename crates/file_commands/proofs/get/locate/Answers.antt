@@ -1,18 +1,18 @@
 use Rattle.std.proofs.Common.{◌≡◌, ℕ, List, Result, Ok, Err, inr, rules, subst, sym}
 use Rattle.std.specs.Prelude.{IfErr}
-use Rattle.command_face.specs.Refusing.{IsRefused}
+use Rattle.command_face.specs.Refusing.{IsNotRead}
 use Rattle.command_face.specs.declared.stop.StopReason.{StopReason}
 use Rattle.command_face.specs.declared.stop.StopReason.TheVariants as stop
 use Rattle.file_commands.specs.Getting.{IsObject, StopsAs}
 use Rattle.file_commands.proofs.AnswerLaws.{stops_more}
-use Rattle.file_commands.proofs.LooksLaws.{looks_through}
+use Rattle.file_commands.proofs.LooksLaws.{looks_through, missing_plain}
 use Rattle.file_commands.proofs.get.locate.Goals as goal
 
 pub returns-in_err-loaded-clause-stopped : goal.returns-in_err-loaded-clause-stopped
 returns-in_err-loaded-clause-stopped g c = λ told.
     let file = (g.D.Disk.state c.args.disk.now).file in
     let why = c.in_err-loaded.field-0.0 in
-    let all = stops_more (IsRefused file) (IsObject c.args.name.now file) (λ answer is. inr is) why
+    let all = stops_more (IsNotRead file) (IsObject c.args.name.now file) (λ answer is. inr is) why
     (c.in_err-loaded.ensures.stopped told) in
     search rules
 
@@ -40,3 +40,6 @@ pub returns-clause-looks : goal.returns-clause-looks
 returns-clause-looks g c =
     looks_through (g.D.Disk.state c.args.disk.now) (g.D.Disk.state c.load.new.disk) c.in_ok-loaded.loaded
     c.in_ok-loaded.ensures.looks c.located_in.result c.located_in.ensures.only
+
+pub returns-clause-plain : goal.returns-clause-plain
+returns-clause-plain g c = missing_plain c.located_in.result c.located_in.ensures.only

@@ -1,10 +1,20 @@
-use Rattle.std.proofs.Common.{◌≡◌, ap, arith, refl, rules, length, take, [], ◌∷◌, ℕ}
+use Rattle.std.proofs.Common.{◌≡◌, ap, arith, false, refl, rules, subst, sym, length, take, [], ◌∷◌, ℕ}
 use Rattle.std.proofs.lemmas.List.{length-take-le}
 use Rattle.std.specs.Prelude.{Err, ◌+◌}
-use Rattle.reopen.specs.Loads.{unboxed}
+use Rattle.reopen.specs.Loads.{IsReadAs, unboxed}
+use Rattle.reopen.proofs.StateLaws.{keeps_read, loaded_is_read}
 use Rattle.dump_stream.specs.declared.putting.DumpFault.TheVariants as why
 use Rattle.lent_store.proofs.DumpLaws.{sink_stops}
 use Rattle.lent_store.proofs.stream.put_dump.Goals as goal
+
+-- the file of a store has no logs
+pub dump_boxed-requires : goal.dump_boxed-requires
+dump_boxed-requires c =
+    let x = unboxed c.args.loaded.now in
+    let keeps = keeps_read false x c.requires.loaded in
+    let from = subst (λ file. IsReadAs file x) (sym c.of-view.ensures.file)
+    (loaded_is_read c.args.file.now.file x c.requires.from) in
+    (search rules, (search rules, (search rules, (search rules, (keeps, λ told. from)))))
 
 pub returns-clause-dumps : goal.returns-clause-dumps
 returns-clause-dumps c =

@@ -1,9 +1,8 @@
-use Rattle.std.proofs.Common.{◌≡◌, ◌+◌, ◌-◌, ◌∙◌, ap, arith, drop, subst, sym, take, rules}
+use Rattle.std.proofs.Common.{◌≡◌, ◌+◌, ◌-◌, ◌∙◌, ap, arith, drop, sym, take, rules}
 use Rattle.std.specs.Option.{option_copied}
 use Rattle.std.proofs.lemmas.List.{take-take}
 use Rattle.byte_ranges.specs.Ranges.{bytes_at}
 use Rattle.slot_codec.specs.Choice.{record_after}
-use Rattle.slot_codec.specs.Spelling.{record_len}
 use Rattle.reopen.proofs.records.record_at.Goals as goal
 
 pub returns-clause-value : goal.returns-clause-value

@@ -1,5 +1,4 @@
 use Rattle.std.proofs.Common.{◌∙◌, sym, arith, refl}
-use Rattle.std.proofs.Math.Nat.{mul-le-mul_left}
 use Rattle.placement_model.proofs.OrderLaws.{behind_all}
 use Rattle.reopen.proofs.RecordLaws.{behind_is, rises_after, through_more, through_none, through_refused}
 use Rattle.reopen.proofs.records.set_records.Goals as goal

@@ -1,40 +1,8 @@
-use Rattle.std.proofs.Common.{arith, sym, subst}
-use Rattle.std.proofs.lemmas.Grind.{common_steps}
-use Rattle.reopen.specs.Loads.{IsLoadedFrom, KeepsLoaded}
-use Rattle.reopen.specs.Refusals.{BreaksLaid}
-use Rattle.reopen.specs.Tables.{IsCheckedLayout}
-use Rattle.reopen.proofs.StateLaws.{breaks_laid, keeps_loaded, loaded_from, loaded_with}
+use Rattle.std.specs.Prelude.{false}
+use Rattle.reopen.proofs.TableLaws.{slot_refused}
 use Rattle.reopen.proofs.state.load_state.Goals as goal
-
-pub returns-in-Ok-clause-opened : goal.returns-in-Ok-clause-opened
-returns-in-Ok-clause-opened g c = λ told.
-    let file = (g.D.Disk.state c.args.disk.now).file in
-    let r = c.in_ok-found.field-0 in
-    subst (λ slots. IsLoadedFrom file (record (loaded_with r c.in-Ok.layout.value) { slots = slots }))
-    (sym c.of.ensures)
-    (loaded_from file r c.in-Ok.layout.value c.in_ok-found.ensures.read.is_table
-    (c.in_ok-found.ensures.told told)
-    (subst (λ h. IsCheckedLayout r.found.block.k r.data_len h r.table.now c.in-Ok.layout.value)
-    c.deref.ensures
-    c.in-Ok.ensures.layout))
-
-pub returns-in-Ok-clause-loaded : goal.returns-in-Ok-clause-loaded
-returns-in-Ok-clause-loaded g c =
-    let r = c.in_ok-found.field-0 in
-    subst (λ slots. KeepsLoaded (record (loaded_with r c.in-Ok.layout.value) { slots = slots }))
-    (sym c.of.ensures)
-    (keeps_loaded r c.in-Ok.layout.value c.in_ok-found.ensures.read
-    (subst (λ h. IsCheckedLayout r.found.block.k r.data_len h r.table.now c.in-Ok.layout.value)
-    c.deref.ensures
-    c.in-Ok.ensures.layout))
 
 pub returns-in-Err-clause-refused : goal.returns-in-Err-clause-refused
 returns-in-Err-clause-refused g c = λ told.
-    let r = c.in_ok-found.field-0 in
-    breaks_laid g.row.C (g.D.Disk.state c.args.disk.now).file r c.in-Err.fault
-    c.in_ok-found.ensures.read.is_table (c.in_ok-found.ensures.told told)
-    (subst (λ h. BreaksLaid g.row.C r.found.block.k r.data_len h r.table.now c.in-Err.fault) c.deref.ensures
-    c.in-Err.ensures.broken)
-
-pub returns-in_err-found : goal.returns-in_err-found
-returns-in_err-found g c = grind (arith, common_steps)
+    slot_refused false (g.D.Disk.state c.args.disk.now).file c.in-Err.fault
+    (c.in-Err.ensures.refused told)

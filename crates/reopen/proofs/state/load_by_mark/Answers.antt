@@ -1,0 +1,8 @@
+use Rattle.slot_codec.specs.Reading.{is_logged}
+use Rattle.reopen.proofs.TableLaws.{slot_refused}
+use Rattle.reopen.proofs.state.load_by_mark.Goals as goal
+
+pub returns-in-Err-clause-refused : goal.returns-in-Err-clause-refused
+returns-in-Err-clause-refused g c = λ told.
+    slot_refused (is_logged (g.D.Disk.state c.args.disk.now).file) (g.D.Disk.state c.args.disk.now).file c.in-Err.fault
+    (c.in-Err.ensures.refused told)
