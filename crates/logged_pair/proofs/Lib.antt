@@ -1,0 +1,11 @@
+pub mod KeepLaws
+pub mod TableLaws
+pub mod AppendLaws
+pub mod AppendTables
+pub mod AppendPhases
+pub mod EntryPhases
+pub mod EntryDone
+pub mod NextLaws
+pub mod WholeLaws
+pub mod WholeTables
+pub mod WholePhases
