@@ -18,8 +18,6 @@ mod fused;
 #[cfg(test)]
 mod growth;
 #[cfg(test)]
-mod logs;
-#[cfg(test)]
 mod maps;
 #[cfg(test)]
 mod moments;
