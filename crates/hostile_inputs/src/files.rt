@@ -1,11 +1,12 @@
 //! Tries the opening of files with tables that were spoilt: two thousand, each with one, two or three
 //! parts that its number draws, are opened by `read_state` and by `plain_layout`. It prints how many
-//! are still opened, how many are refused for each reason, and on how many the two differ.
+//! are still opened, how many are refused for each reason, the sum of the positions of their faults, and on how
+//! many the two differ.
 mod bases;
 mod spoils;
-mod tally;
 
 use crate::drawn::Drawn;
+use crate::tally::Tally;
 use bases::drawn_base;
 use disk_mem::MemDisk;
 use row_vectors::alike::opened_by_both;
@@ -13,7 +14,6 @@ use row_vectors::images::image;
 use spoils::spoil;
 use std::alloc::Global;
 use std::test::Fail;
-use tally::Tally;
 
 /// How many files are tried: those of the numbers from 0 on.
 const FILES: u64 = 2_000;

@@ -1,11 +1,14 @@
-//! Tries hostile input. With no word it tries files that were spoilt, and then sessions with inputs that
-//! were. `hostile_inputs COUNT IMAGE COMMAND FILE ..` tries a command where one growth of memory is refused.
+//! Tries hostile input. With no word it tries files that were spoilt, logged files that were, and then sessions
+//! with inputs that were. `hostile_inputs COUNT IMAGE COMMAND FILE ..` tries a command where one growth of memory is refused.
 #![tactic(auto)]
 
 mod drawn;
 mod files;
+mod logs;
 mod memory;
 mod streams;
+mod tally;
+mod values;
 
 use std::env;
 use std::test::Fail;
@@ -16,6 +19,7 @@ fn main(rt: HostRuntime) -> Result<(), Fail> {
     match texts.as_slice() {
         [] => {
             files::try_all(&rt)?;
+            logs::try_all(&rt)?;
             streams::try_all(&rt)
         }
         [count, image, command @ ..] => memory::try_one(&rt, count, image, command),

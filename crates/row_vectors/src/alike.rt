@@ -75,7 +75,7 @@ fn same_refusal(refusal: Refusal, fault: OpenFault) -> Result<Seen, Parting> {
 }
 
 /// A refusal of one way, as the other says it.
-fn as_refusal(fault: OpenFault) -> Refusal {
+pub fn as_refusal(fault: OpenFault) -> Refusal {
     match fault {
         OpenFault::Slot(fault) => Refusal::Slot(fault),
         OpenFault::Table(broken) => Refusal::Rule(broken.rule, broken.at),

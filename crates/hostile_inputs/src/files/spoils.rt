@@ -1,8 +1,9 @@
 //! Spoiling a part of a file, as words draw it.
-ghost use Rattle.std.specs.Prelude.{◌<◌, ◌≤◌, ◌+◌, length};
+ghost use Rattle.std.specs.Prelude.{◌<◌};
 
 use crate::drawn::Drawn;
-use size_class::{CLASSES, SIZE_MAX};
+use crate::values::{below, spoil_byte, spoil_length, spoil_number};
+use size_class::CLASSES;
 use std::alloc::AllocError;
 
 /// A part of a file. Those of tables are parts of slot 0.
@@ -93,15 +94,11 @@ const PARTS: [Part; 40] = [
 /// The classes that are spoilt are below this one.
 const LIMIT: u32 = CLASSES as u32 + 1;
 
-/// No file gets longer.
-const LONGEST: u64 = 30_000;
-
 /// Spoils a part of a file; what lies behind its end is left.
 pub fn spoil(bytes: &mut Vec<u8>, words: &mut Drawn) -> Result<(), AllocError> {
     let part = PARTS[words.below(40) as usize];
     if part == Part::Length {
-        let length = value(bytes.len() as u64, words).min(LONGEST);
-        return bytes.resize(length as usize, 0);
+        return spoil_length(bytes, words);
     }
     let at = place(part, words);
     if is_number(part) {
@@ -164,14 +161,6 @@ fn place(part: Part, words: &mut Drawn) -> usize
     }
 }
 
-/// A place below a limit, which is not 0.
-fn below(limit: u32, words: &mut Drawn) -> usize
-    requires { 0 < limit }
-    ensures { result < limit }
-{
-    words.below(limit) as usize
-}
-
 /// The place of a gate: of slot 0, of slot 1, or of the format.
 fn gate(number: usize) -> usize
     ensures { result < 20000 }
@@ -180,41 +169,5 @@ fn gate(number: usize) -> usize
         0 => 9832,
         1 => 19_601,
         _ => 19_602,
-    }
-}
-
-/// Spoils a byte.
-fn spoil_byte(bytes: &mut [u8], at: usize, words: &mut Drawn) {
-    if at < bytes.len() {
-        bytes[at] = (value(u64::from(bytes[at]), words) % 256) as u8;
-    }
-}
-
-/// Spoils a number of 8 bytes.
-fn spoil_number(bytes: &mut [u8], at: usize, words: &mut Drawn)
-    requires { at < 20000 }
-{
-    if at + 8 <= bytes.len() {
-        let mut piece = [0u8; 8];
-        piece.copy_from_slice(&bytes[at..at + 8]);
-        let number = value(u64::from_le_bytes(piece), words);
-        bytes[at..at + 8].copy_from_slice(&number.to_le_bytes());
-    }
-}
-
-/// What a number is spoilt to: nothing, one, one more or one less, more than a number or an object
-/// may have, an open gate, something small, something more, or any number.
-fn value(old: u64, words: &mut Drawn) -> u64 {
-    match words.below(12) {
-        0 => 0,
-        1 => 1,
-        2 | 3 => old.wrapping_add(1),
-        4 | 5 => old.wrapping_sub(1),
-        6 => 1 << 48,
-        7 => SIZE_MAX + 1,
-        8 => 0xA5,
-        9 => u64::from(words.below(256)),
-        10 => old.wrapping_add(u64::from(words.below(256))),
-        _ => words.long(),
     }
 }

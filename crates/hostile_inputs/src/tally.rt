@@ -5,7 +5,7 @@ use slot_pair::SlotFault;
 use std::io;
 
 /// How many files were opened, refused for each reason, and seen in two ways. The reasons are counted
-/// by their numbers, from 1 on.
+/// by their numbers, from 1 on. The positions that faults of the codec have are added up.
 #[derive(Clone, Copy)]
 pub struct Tally {
     still: u64,
@@ -13,6 +13,7 @@ pub struct Tally {
     slots: [u64; 4],
     codecs: [u64; 12],
     rules: [u64; 12],
+    positions: u64,
     differ: u64,
 }
 
@@ -25,6 +26,7 @@ impl Tally {
             slots: [0; 4],
             codecs: [0; 12],
             rules: [0; 12],
+            positions: 0,
             differ: 0,
         }
     }
@@ -47,8 +49,9 @@ impl Tally {
             Refusal::Slot(SlotFault::Unformatted) => one_more(&mut self.slots[1]),
             Refusal::Slot(SlotFault::NoGate) => one_more(&mut self.slots[2]),
             Refusal::Slot(SlotFault::SameSequence) => one_more(&mut self.slots[3]),
-            Refusal::Slot(SlotFault::Codec(fault, _)) => {
+            Refusal::Slot(SlotFault::Codec(fault, at)) => {
                 one_more(&mut self.codecs[usize::from(fault.number()) - 1]);
+                self.positions = self.positions.saturating_add(at);
             }
             Refusal::Rule(rule @ 1..=12, _) => one_more(&mut self.rules[usize::from(rule) - 1]),
             Refusal::Slot(SlotFault::Disk) | Refusal::Rule(_, _) | Refusal::NoMemory => {
@@ -64,6 +67,7 @@ impl Tally {
         show_all(rt, "slot", &self.slots)?;
         show_all(rt, "codec", &self.codecs)?;
         show_all(rt, "rule", &self.rules)?;
+        println!(rt; "positions {}", self.positions)?;
         println!(rt; "differ {}", self.differ)
     }
 }
