@@ -9,3 +9,4 @@ pub mod NextLaws
 pub mod WholeLaws
 pub mod WholeTables
 pub mod WholePhases
+pub mod SlotLaws
