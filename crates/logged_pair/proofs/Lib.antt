@@ -9,4 +9,5 @@ pub mod NextLaws
 pub mod WholeLaws
 pub mod WholeTables
 pub mod WholePhases
+pub mod PlainSlots
 pub mod SlotLaws

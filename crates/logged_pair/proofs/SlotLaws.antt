@@ -1,40 +1,31 @@
 -- What a save of one form of slots leaves, in the words that both forms share.
-use Rattle.std.specs.Prelude.{◌≡◌, ◌⊎◌, ℕ, ◌+◌, ◌<◌, ◌≤◌, false, true, List, length, None, Ok, refl}
-use Rattle.std.proofs.Common.{◌∙◌, ap, inl, inr, sym}
+use Rattle.std.specs.Prelude.{◌≡◌, ◌⊎◌, ℕ, ◌+◌, ◌<◌, ◌≤◌, false, true, List, length, Ok, refl}
+use Rattle.std.proofs.Common.{◌∙◌, inl, inr, sym}
 use Rattle.disk_face.specs.Moments.{Leaves}
 use Rattle.disk_face.specs.States.{State}
 use Rattle.disk_face.proofs.MomentLaws.{Leaves-weaken}
-use Rattle.slot_codec.specs.Choice.{InUse, SlotTable, read_records, records_at, table_of}
+use Rattle.slot_codec.specs.Choice.{InUse, SlotTable, table_of}
 use Rattle.slot_codec.specs.Logs.{table_in}
 use Rattle.slot_codec.specs.Readable.{AreInRange}
 use Rattle.slot_codec.specs.Rolls.{IsRoll}
 use Rattle.slot_codec.specs.Spelling.{head_len}
 use Rattle.slot_codec.specs.declared.codec.Header.{Header}
 use Rattle.slot_codec.specs.declared.codec.Record.{Record}
-use Rattle.slot_codec.proofs.ChoiceLaws.{table_chosen, table_from}
+use Rattle.slot_codec.proofs.ChoiceLaws.{table_chosen}
 use Rattle.slot_codec.proofs.StepLaws.{bind_from}
 use Rattle.slot_pair.specs.Saves.{IsSaved, KeepsTable, LeavesNew, LeavesOld, SaveLeaves, next_chosen, next_in_use}
 use Rattle.logged_pair.specs.Pairs.{InLog, LoggedTable, in_log, logged_in}
 use Rattle.logged_pair.specs.Saves.{AreSaved, ChangesLeave, HasRecords, LeavesNewTable, LeavesOldTable, next_table}
 use Rattle.logged_pair.specs.Slots.{HasTable, IsTableSaved, LeadsTo, LeavesAfter, LeavesBefore, TableSaveLeaves, table_after}
 use Rattle.logged_pair.specs.declared.slots.Slots.TheVariants as slots
+use Rattle.logged_pair.proofs.PlainSlots.{plain_has, table_kept}
 use Rattle.logged_pair.proofs.TableLaws.{records_are, table_is}
 
 -- ---- slots without logs
 
-pub plain_has : (t : SlotTable) (records : List Record) (file : List ℕ) → table_of file ≡ Ok t
-    → HasTable false t records file
-plain_has t records file read = record { read = read; log = λ no. cc }
-
 pub plain_kept : (x : SlotTable) (before : List Record) (file image : List ℕ) → table_of file ≡ Ok x
     → KeepsTable x.chosen file image → HasTable false x before image
-plain_kept x before file image read keeps =
-    let c = x.chosen in
-    let p = table_chosen file x read in
-    plain_has x before image (table_from image c p.1 keeps.same_slot
-    (ap (λ text. read_records c.header.version c.header.count text (records_at c) None) keeps.same_records
-    ∙ p.2)
-    ∙ ap Ok p.3)
+plain_kept x before file image read keeps = plain_has x before image (table_kept x file image read keeps)
 
 pub plain_left : (u : InUse) (h : Header) (before now : List Record) (a b : State) → SaveLeaves u h now a b
     → TableSaveLeaves (slots.Plain u) (slots.Plain (next_in_use u)) h before now a b
