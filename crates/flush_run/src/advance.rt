@@ -1,6 +1,7 @@
 //! A flush one move at a time.
 ghost use Rattle.std.specs.Prelude.{◌≡◌, ◌+◌, ◌≤◌, ℕ, vec_len, IfOk, IsFalse, IsTrue, OnErr, OnOk};
 ghost use Rattle.disk_face.specs.Counts.{HasCause};
+ghost use Rattle.logged_pair.specs.Slots.{used_in};
 ghost use Rattle.flush_run.specs.{Advances.{HasStepped, HasStopped}, FlushFrames.{FlushFrame, LeavesOldOrNew}, Parts.{parts_of}, Phases.{CanAdvance, GoesOn, KeepsIn, PaidIn, items_in}};
 
 use crate::Hands;
@@ -24,7 +25,7 @@ pub(crate) fn advance<D: Disk, const C: usize>(
         → OnOk result (GoesOn f phase.new (parts_of hands.new) (D.state disk.new)) }
     ensures left { (f : FlushFrame) → CanAdvance f phase.old (parts_of hands.old) (D.state disk.old)
         → IsTrue (D.state disk.old).tells
-        → LeavesOldOrNew f (hands.new.slots.sequence + 1) (D.state disk.old) (D.state disk.new) }
+        → LeavesOldOrNew f ((used_in hands.new.slots).sequence + 1) (D.state disk.old) (D.state disk.new) }
     ensures keeps { OnOk result (KeepsIn phase.new (items_in phase.new hands.new.table)) }
     ensures paid { (q : ℕ) → PaidIn q phase.old (parts_of hands.old)
         → OnOk result (PaidIn q phase.new (parts_of hands.new)) }

@@ -4,6 +4,7 @@ ghost use Rattle.std.specs.FinMap as fin;
 ghost use Rattle.disk_face.specs.Counts.{HasCause, counted};
 ghost use Rattle.slot_codec.specs.{Choice.{InUse, slot_in_use}, Spelling.{head_len}};
 ghost use Rattle.slot_pair.specs.Saves.{save_calls};
+ghost use Rattle.logged_pair.specs.Slots.{used_in};
 ghost use Rattle.size_class.specs.{Classes.{class_of}, Rows.{cells_of}};
 ghost use Rattle.span_math.specs.Spans.{IsApart};
 ghost use Rattle.segment_layout.specs.Layouts.{grid_of};
@@ -32,36 +33,37 @@ pub(crate) fn free_target<D: Disk, const C: usize>(
     hands: &mut Hands<C>,
 ) -> Result<bool, DiskFault>
     requires ready { IsTrue (D.state disk.old).is_ready }
-    requires room { 57344 ≤ vec_len hands.old.buf }
+    requires room { 57856 ≤ vec_len hands.old.buf }
     requires fits { C ≤ 32 }
     requires header { IfSome saving (HasHeader C (grid_of hands.old.layout)) }
     requires apart { IsNone saving → All (λ other. IsApart other target) hands.old.guard.spans }
     requires version { FitsVersion (parts_of hands.old) }
-    requires fresh { hands.old.slots.sequence < 2 ^ 62 - 1 }
+    requires fresh { (used_in hands.old.slots).sequence < 2 ^ 62 - 1 }
     requires table { IsTable hands.old.table }
     requires long { IsTrue (D.state disk.old).tells
-        → head_len hands.old.slots.block.names ≤ length (D.state disk.old).file }
+        → head_len (used_in hands.old.slots).block.names ≤ length (D.state disk.old).file }
     requires in_use { IsTrue (D.state disk.old).tells
-        → slot_in_use (D.state disk.old).file ≡ Ok hands.old.slots }
-    ensures answer { IfOk result (λ saved. FreesTarget saved target hands.old.slots hands.new.slots
+        → slot_in_use (D.state disk.old).file ≡ Ok (used_in hands.old.slots) }
+    ensures answer { IfOk result (λ saved. FreesTarget saved target (used_in hands.old.slots)
+        (used_in hands.new.slots)
         hands.old.table hands.new.table hands.old.guard.spans hands.new.guard.spans) }
     ensures unsaved { IsNone saving → IfOk result (λ saved. IsFalse saved) }
     ensures flies { (f : FlushFrame) → IsTrue (D.state disk.old).tells
         → IfSome saving (CanSaveAs f (parts_of hands.old))
-        → IsMidFlush f hands.old.slots hands.old.table (D.state disk.old)
-        → OnOk result (IsMidFlush f hands.new.slots hands.new.table (D.state disk.new)) }
+        → IsMidFlush f (used_in hands.old.slots) hands.old.table (D.state disk.old)
+        → OnOk result (IsMidFlush f (used_in hands.new.slots) hands.new.table (D.state disk.new)) }
     ensures left { (f : FlushFrame) → IsTrue (D.state disk.old).tells
         → IfSome saving (CanSaveAs f (parts_of hands.old))
-        → IsMidFlush f hands.old.slots hands.old.table (D.state disk.old)
-        → LeavesOldOrNew f (hands.old.slots.sequence + 1) (D.state disk.old) (D.state disk.new) }
+        → IsMidFlush f (used_in hands.old.slots) hands.old.table (D.state disk.old)
+        → LeavesOldOrNew f ((used_in hands.old.slots).sequence + 1) (D.state disk.old) (D.state disk.new) }
     ensures most { (D.state disk.new).turn
         ≤ (D.state disk.old).turn + save_calls (length (records_of hands.old.table.now)) }
     ensures none { IfOk result (λ saved. IsFalse saved → (D.state disk.new).turn ≡ (D.state disk.old).turn) }
     ensures spots { hands.new.table.now ≡ hands.old.table.now }
     ensures keeps { KeepsOn (D.state disk.old) (D.state disk.new) (parts_of hands.old) (parts_of hands.new) }
     ensures moved { cells_of hands.new.ledger.moved ≡ cells_of hands.old.ledger.moved }
-    ensures later { hands.old.slots.sequence ≤ hands.new.slots.sequence }
-    ensures one { hands.new.slots.sequence ≤ hands.old.slots.sequence + 1 }
+    ensures later { (used_in hands.old.slots).sequence ≤ (used_in hands.new.slots).sequence }
+    ensures one { (used_in hands.new.slots).sequence ≤ (used_in hands.old.slots).sequence + 1 }
     ensures cause { HasCause (D.state disk.old).faults (D.state disk.new).faults result }
 {
     let Some(numbers) = saving else {

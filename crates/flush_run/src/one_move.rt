@@ -1,6 +1,7 @@
 //! One move of a flush, with the save before it where its target is held.
 ghost use Rattle.std.specs.Prelude.{◌≡◌, ◌+◌, ◌≤◌, vec_len, IsTrue, OnErr, OnOk};
 ghost use Rattle.disk_face.specs.Counts.{HasCause};
+ghost use Rattle.logged_pair.specs.Slots.{used_in};
 ghost use Rattle.flush_model.specs.Phases.{PlanState, moved_by};
 ghost use Rattle.flush_run.specs.{FlushFrames.{FlushFrame, LeavesOldOrNew}, Loops.{BetweenMoves}, MadeMoves.{CanMakeMove, HasMadeMove, HasNotMoved}, Parts.{parts_of}};
 
@@ -30,7 +31,7 @@ pub(crate) fn make_move<D: Disk, const C: usize>(
     ensures left { (f : FlushFrame) (p : PlanState)
         → CanMakeMove C f (parts_of hands.old) p saving mv.now (D.state disk.old)
         → IsTrue (D.state disk.old).tells
-        → LeavesOldOrNew f (hands.new.slots.sequence + 1) (D.state disk.old) (D.state disk.new) }
+        → LeavesOldOrNew f ((used_in hands.new.slots).sequence + 1) (D.state disk.old) (D.state disk.new) }
     ensures made { OnOk result (HasMadeMove mv.now saving (D.state disk.old) (D.state disk.new)
         (parts_of hands.old) (parts_of hands.new)) }
     ensures failed { OnErr result (HasNotMoved mv.now (D.state disk.old) (D.state disk.new)

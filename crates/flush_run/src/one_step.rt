@@ -1,6 +1,7 @@
 //! A flush one move at a time, for whoever does other work between two moves.
 ghost use Rattle.std.specs.Prelude.{◌≡◌, ◌+◌, ◌≤◌, ℕ, IsTrue};
 ghost use Rattle.disk_face.specs.Counts.{HasCause};
+ghost use Rattle.logged_pair.specs.Slots.{used_in};
 ghost use Rattle.flush_run.specs.{FlushFrames.{FlushFrame, LeavesOldOrNew}, Parts.{parts_of}, Phases.{CanAdvance, KeepsIn, PaidIn, items_in}, Runs.{AreLent}, Steps.{GoesThen, KeepsThen, MakesThen, PaidThen, stepped_of}};
 
 use crate::Hands;
@@ -34,7 +35,7 @@ pub fn step<D: Disk, const C: usize>(
         → GoesThen f result (parts_of hands.new) (D.state disk.new) }
     ensures left { (f : FlushFrame) → CanAdvance f phase.entry (parts_of hands.old) (D.state disk.old)
         → IsTrue (D.state disk.old).tells
-        → LeavesOldOrNew f (hands.new.slots.sequence + 1) (D.state disk.old) (D.state disk.new) }
+        → LeavesOldOrNew f ((used_in hands.new.slots).sequence + 1) (D.state disk.old) (D.state disk.new) }
     ensures keeps { KeepsThen result (parts_of hands.new) }
     ensures paid { (q : ℕ) → PaidIn q phase.entry (parts_of hands.old)
         → PaidThen q result (parts_of hands.new) }
@@ -65,7 +66,7 @@ pub(crate) fn step_on<D: Disk, const C: usize>(
         → GoesThen f (stepped_of at.new result) (parts_of hands.new) (D.state disk.new) }
     ensures left { (f : FlushFrame) → CanAdvance f at.old (parts_of hands.old) (D.state disk.old)
         → IsTrue (D.state disk.old).tells
-        → LeavesOldOrNew f (hands.new.slots.sequence + 1) (D.state disk.old) (D.state disk.new) }
+        → LeavesOldOrNew f ((used_in hands.new.slots).sequence + 1) (D.state disk.old) (D.state disk.new) }
     ensures keeps { KeepsThen (stepped_of at.new result) (parts_of hands.new) }
     ensures paid { (q : ℕ) → PaidIn q at.old (parts_of hands.old)
         → PaidThen q (stepped_of at.new result) (parts_of hands.new) }

@@ -1,9 +1,10 @@
 //! The end of a flush: the settled table is saved, and the file is cut to where its layout ends.
-ghost use Rattle.std.specs.Prelude.{◌≡◌, ◌+◌, ◌-◌, ◌<◌, ◌≤◌, ◌^◌, ℕ, List, [], length, vec_len, OnErr, OnOk, IsTrue, Ok};
+ghost use Rattle.std.specs.Prelude.{◌≡◌, ◌+◌, ◌-◌, ◌<◌, ◌≤◌, ◌^◌, ℕ, false, [], length, vec_len, OnErr, OnOk, IsTrue, Ok};
 ghost use Rattle.std.specs.FinMap as fin;
 ghost use Rattle.disk_face.specs.{Counts.{HasCause}, Frames.{Calls}};
 ghost use Rattle.slot_codec.specs.{Choice.{slot_in_use}, Reading.{all_in_range, is_version, worn_from}, Spelling.{cap, head_len}};
 ghost use Rattle.slot_pair.specs.Saves.{next_in_use, save_calls};
+ghost use Rattle.logged_pair.specs.Slots.{has_logs, used_in};
 ghost use Rattle.extent_table.specs.Extents.{IsTable, records_of, with_now_kept};
 ghost use Rattle.flush_run.specs.{FlushFrames.{IsMidFlush, FlushFrame, LeavesOldOrNew}, Saves.{IsSaveable}, Loops.{CanSave}, Settling.{CanCut, FlushEnds, IsSettled}, Parts.{KeepsOn, KeepsSettling, parts_of}, Shelved.{items_now, phase_now}};
 ghost use Rattle.segment_layout.specs.Layouts.{caps_of, grid_of};
@@ -26,30 +27,33 @@ pub(crate) fn settle_mid_flush<D: Disk, const C: usize>(
     hands: &mut Hands<C>,
 ) -> Result<(), DiskFault>
     requires ready { IsTrue (D.state disk.old).is_ready }
-    requires room { 57344 ≤ vec_len hands.old.buf }
+    requires room { 57856 ≤ vec_len hands.old.buf }
+    requires plain { has_logs hands.old.slots ≡ false }
     requires version { IsTrue (is_version header.now.version) }
-    requires fresh { hands.old.slots.sequence + 1 < worn_from header.now.kind }
+    requires fresh { (used_in hands.old.slots).sequence + 1 < worn_from header.now.kind }
     requires ranges { IsTrue (all_in_range header.now) }
     requires table { IsTable hands.old.table }
-    requires count { fin.len hands.old.table.now ≤ cap hands.old.slots.block.names header.now.version }
+    requires count { fin.len hands.old.table.now ≤ cap (used_in hands.old.slots).block.names
+        header.now.version }
     requires long { IsTrue (D.state disk.old).tells
-        → head_len hands.old.slots.block.names ≤ length (D.state disk.old).file }
+        → head_len (used_in hands.old.slots).block.names ≤ length (D.state disk.old).file }
     requires in_use { IsTrue (D.state disk.old).tells
-        → slot_in_use (D.state disk.old).file ≡ Ok hands.old.slots }
+        → slot_in_use (D.state disk.old).file ≡ Ok (used_in hands.old.slots) }
     ensures settled { (f : FlushFrame) (end : ℕ) → IsTrue (D.state disk.old).tells → f.base + end ≡ len
-        → IsSaveable f hands.old.slots hands.old.table header.now
-        → CanCut f hands.old.slots hands.old.table.now header.now end
-        → IsMidFlush f hands.old.slots hands.old.table (D.state disk.old)
-        → OnOk result (IsSettled f hands.new.slots hands.new.table.now end (D.state disk.new).file
+        → IsSaveable f (used_in hands.old.slots) hands.old.table header.now
+        → CanCut f (used_in hands.old.slots) hands.old.table.now header.now end
+        → IsMidFlush f (used_in hands.old.slots) hands.old.table (D.state disk.old)
+        → OnOk result (IsSettled f (used_in hands.new.slots) hands.new.table.now end (D.state disk.new).file
         (D.state disk.new).may_leave) }
     ensures left { (f : FlushFrame) (end : ℕ) → IsTrue (D.state disk.old).tells → f.base + end ≡ len
-        → IsSaveable f hands.old.slots hands.old.table header.now
-        → CanCut f hands.old.slots hands.old.table.now header.now end
-        → IsMidFlush f hands.old.slots hands.old.table (D.state disk.old)
-        → LeavesOldOrNew f (hands.old.slots.sequence + 1) (D.state disk.old) (D.state disk.new) }
-    ensures pair { OnOk result (hands.new.slots ≡ next_in_use hands.old.slots) }
-    ensures same_pair { OnErr result ((hands.old.slots.sequence ≤ hands.new.slots.sequence)) }
-    ensures one { hands.new.slots.sequence ≤ hands.old.slots.sequence + 1 }
+        → IsSaveable f (used_in hands.old.slots) hands.old.table header.now
+        → CanCut f (used_in hands.old.slots) hands.old.table.now header.now end
+        → IsMidFlush f (used_in hands.old.slots) hands.old.table (D.state disk.old)
+        → LeavesOldOrNew f ((used_in hands.old.slots).sequence + 1) (D.state disk.old) (D.state disk.new) }
+    ensures pair { OnOk result (used_in hands.new.slots ≡ next_in_use (used_in hands.old.slots)) }
+    ensures same_pair { OnErr result ((used_in hands.old.slots).sequence
+        ≤ (used_in hands.new.slots).sequence) }
+    ensures one { (used_in hands.new.slots).sequence ≤ (used_in hands.old.slots).sequence + 1 }
     ensures table { OnOk result (hands.new.table ≡ with_now_kept hands.old.table) }
     ensures guard { OnOk result (hands.new.guard.spans ≡ []) }
     ensures calls { Calls (save_calls (length (records_of hands.old.table.now)) + 2) (D.state disk.old)
@@ -82,10 +86,10 @@ pub(crate) fn settle<D: Disk, const C: usize>(
     ensures left { (f : FlushFrame) → CanSave C f (caps_of hands.old.layout) (grid_of hands.old.layout)
         (parts_of hands.old) (phase_now settled.now.course hands.old.table) (D.state disk.old)
         → IsTrue (D.state disk.old).tells
-        → LeavesOldOrNew f (hands.old.slots.sequence + 1) (D.state disk.old) (D.state disk.new) }
-    ensures pair { OnOk result (hands.new.slots ≡ next_in_use hands.old.slots) }
-    ensures later { hands.old.slots.sequence ≤ hands.new.slots.sequence }
-    ensures one { hands.new.slots.sequence ≤ hands.old.slots.sequence + 1 }
+        → LeavesOldOrNew f ((used_in hands.old.slots).sequence + 1) (D.state disk.old) (D.state disk.new) }
+    ensures pair { OnOk result (used_in hands.new.slots ≡ next_in_use (used_in hands.old.slots)) }
+    ensures later { (used_in hands.old.slots).sequence ≤ (used_in hands.new.slots).sequence }
+    ensures one { (used_in hands.new.slots).sequence ≤ (used_in hands.old.slots).sequence + 1 }
     ensures calls { Calls (save_calls (length (records_of hands.old.table.now)) + 2) (D.state disk.old)
         (D.state disk.new) result }
     ensures keeps { KeepsSettling (D.state disk.old) (D.state disk.new) (parts_of hands.old)

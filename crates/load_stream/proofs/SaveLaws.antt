@@ -1,6 +1,6 @@
 -- What the save of a load leaves: the empty store, or the map that was loaded.
-use Rattle.std.specs.Prelude.{◌≡◌, ◌⊎◌, ℕ, ◌+◌, ◌-◌, ◌<◌, List, length, None, refl}
-use Rattle.std.proofs.Common.{arith, ap, sym, inl, inr, subst}
+use Rattle.std.specs.Prelude.{◌≡◌, ◌⊎◌, ℕ, ◌+◌, ◌-◌, ◌<◌, List, length, None, Ok, refl}
+use Rattle.std.proofs.Common.{◌∙◌, arith, ap, sym, inl, inr, subst}
 use Rattle.std.specs.FinMap as fin
 use Rattle.byte_ranges.specs.Ranges.{SameFrom}
 use Rattle.disk_face.specs.States.{State}
@@ -15,6 +15,7 @@ use Rattle.slot_codec.specs.declared.codec.Kind.TheVariants.{Settled}
 use Rattle.slot_codec.specs.declared.codec.Header.{Header}
 use Rattle.slot_pair.specs.Formats.{HasFirstTable, first_chosen, first_in_use, first_table}
 use Rattle.slot_pair.specs.Saves.{HasOldOrNewTable, IsSaveDone, IsSaved, KeepsTable, LeavesEither, SaveLeaves, next_chosen}
+use Rattle.logged_pair.proofs.PlainSlots.{table_kept}
 use Rattle.map_model.specs.Weights.{Entry}
 use Rattle.segment_layout.specs.Books.{Book, with_digests}
 use Rattle.segment_layout.specs.Layouts.{caps_of}
@@ -73,8 +74,8 @@ module _ (k names : ℕ) (caps : List ℕ) (e : Extents) (table : IsTable e) (fi
       low = omega arith;
       opens = subst (λ (b : Book). OpensBy CLASSES SIZE_MAX at image (read_at (head_len names) file e.now) b)
           book
-          (new_image_opens CLASSES SIZE_MAX at (rolled e.now e.digests) file image
-          (rolled_table_is u h e table) valid saved same);
+          (new_image_opens CLASSES SIZE_MAX at file image valid
+          (saved.table ∙ ap (λ t. Ok t) (rolled_table_is u h e table)) same);
     };
     same_records = refl;
     same_length = sym same.same_length;
@@ -89,9 +90,8 @@ module _ (k names : ℕ) (caps : List ℕ) (e : Extents) (table : IsTable e) (fi
     made_for = refl;
     settled = first_settled k names;
     low = omega (arith, first_sequence k names);
-    opens = old_image_opens CLASSES SIZE_MAX (first_table k names) file before image fin.empty empty_book
-        first.table
-        (first_opens k names before had) keeps same;
+    opens = old_image_opens CLASSES SIZE_MAX (first_table k names) before image fin.empty empty_book
+        (table_kept (first_table k names) file image first.table keeps) (first_opens k names before had) same;
   }
 
   -- what the content has, also where the save failed

@@ -1,7 +1,8 @@
 //! The device calls of a change that isn't quiet: the file grows, the new object is written, and the
 //! flush is made.
-ghost use Rattle.std.specs.Prelude.{◌≡◌, ◌+◌, ◌-◌, ◌*◌, ◌<◌, ◌≤◌, ◌^◌, ℕ, [], false, length, IsTrue, None, OnOk, vec_len};
+ghost use Rattle.std.specs.Prelude.{◌≡◌, ◌+◌, ◌-◌, ◌*◌, ◌<◌, ◌≤◌, ◌^◌, [], false, length, IsTrue, None, OnOk, vec_len};
 ghost use Rattle.std.specs.FinMap as fin;
+ghost use Rattle.logged_pair.specs.Slots.{used_in};
 ghost use Rattle.disk_face.specs.{Counts.{HasCause}, Writes.{KeepsDisk}};
 ghost use Rattle.size_class.specs.Rows.{cells_of};
 ghost use Rattle.segment_layout.specs.Books.{is_quiet};
@@ -74,7 +75,8 @@ pub(crate) fn launch<D: Disk, const C: usize>(
         (lift_start (phase_now begun.now.phase.course hands.now.table) begun.now.place) bytes.now
         (D.state disk.old)
         → IsTrue (D.state disk.old).tells
-        → OnOk result (IsMidFlush (flight_of C x0 c begun.now.phase.course.numbers.reach g) hands.now.slots
+        → OnOk result (IsMidFlush (flight_of C x0 c begun.now.phase.course.numbers.reach g)
+        (used_in hands.now.slots)
         hands.now.table (D.state disk.new)) }
     ensures left { (x0 : HandsValue) (c : Change) (g : BeforeChange)
         → CanMakeFlush C x0 c g (parts_of hands.now)
@@ -82,7 +84,7 @@ pub(crate) fn launch<D: Disk, const C: usize>(
         (D.state disk.old)
         → IsTrue (D.state disk.old).tells
         → LeavesOldOrNew (flight_of C x0 c begun.now.phase.course.numbers.reach g)
-        (hands.now.slots.sequence + 1) (D.state disk.old) (D.state disk.new) }
+        ((used_in hands.now.slots).sequence + 1) (D.state disk.old) (D.state disk.new) }
     ensures most { (D.state disk.new).turn ≤ (D.state disk.old).turn + 2 }
     ensures frame { KeepsDisk (D.state disk.old) (D.state disk.new) }
     ensures cause { HasCause (D.state disk.old).faults (D.state disk.new).faults result }
@@ -120,12 +122,14 @@ pub(crate) fn make_flush<D: Disk, const C: usize>(
         (D.state disk.old)
         → IsTrue (D.state disk.old).tells
         → LeavesOldOrNew (flight_of C x0 c begun.entry.phase.course.numbers.reach g)
-        (hands.new.slots.sequence + 1) (D.state disk.old) (D.state disk.new) }
-    ensures saves { OnOk result ((hands.old.slots.sequence + 1 ≤ hands.new.slots.sequence)
-        × (hands.new.slots.sequence ≤ hands.old.slots.sequence + 2 * hands.old.slots.block.k)) }
+        ((used_in hands.new.slots).sequence + 1) (D.state disk.old) (D.state disk.new) }
+    ensures saves { OnOk result (((used_in hands.old.slots).sequence + 1 ≤ (used_in hands.new.slots).sequence)
+        × ((used_in hands.new.slots).sequence ≤ (used_in hands.old.slots).sequence
+        + 2 * (used_in hands.old.slots).block.k)) }
     ensures calls { OnOk result (CallsSoFar (D.state disk.old).turn (D.state disk.new).turn
         (cells_of hands.old.ledger.moved) (cells_of hands.new.ledger.moved) 4
-        (hands.new.slots.sequence - hands.old.slots.sequence) (fin.len hands.old.table.now)) }
+        ((used_in hands.new.slots).sequence - (used_in hands.old.slots).sequence)
+        (fin.len hands.old.table.now)) }
     ensures made { HasMadeFlush begun.entry.phase.course.numbers.boundary
         (items_now begun.entry.phase.course hands.old.table) (D.state disk.old)
         (D.state disk.new) (parts_of hands.old) (parts_of hands.new) }

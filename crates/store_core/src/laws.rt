@@ -16,6 +16,7 @@ use crate::Store;
 use crate::memory::{Memory, boxed, no_bytes, store_with, take_memory};
 use extent_table::Table;
 use flush_run::Hands;
+use logged_pair::Slots;
 use segment_layout::Layout;
 use size_class::SIZE_MAX;
 use slot_codec::{NoMemory, SuperBlock, cap, head_len};
@@ -151,7 +152,7 @@ pub(crate) fn store_in<const C: usize>(
         table,
         layout: *layout,
         guard,
-        slots,
+        slots: Slots::Plain(slots),
         ledger: no_bytes(),
         buf,
         base: head_len(block.names),

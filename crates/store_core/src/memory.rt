@@ -1,5 +1,6 @@
 //! The memory that a store takes as it is made, and the store of hands that were settled.
 ghost use Rattle.std.specs.Prelude.{◌≡◌, ◌≤◌, [], vec_len, IfOk};
+ghost use Rattle.logged_pair.specs.Slots.{used_in};
 ghost use Rattle.size_class.specs.{Classes.{zero_row}, Rows.{cells_of}};
 ghost use Rattle.segment_layout.specs.Layouts.{caps_of, grid_of};
 ghost use Rattle.extent_table.specs.Extents.{digests_seen};
@@ -65,7 +66,7 @@ pub(crate) fn store_with<const C: usize>(
     kept_layout: Box<Layout<C>>,
 ) -> Store<C>
     requires { MakesStore hands.value }
-    ensures { result ≡ opened_store C hands.entry.value.slots hands.entry.value.table.now
+    ensures { result ≡ opened_store C (used_in hands.entry.value.slots) hands.entry.value.table.now
         (digests_seen hands.entry.value.version hands.entry.value.table.digests)
         (caps_of hands.entry.value.layout) (grid_of hands.entry.value.layout) }
 {

@@ -15,6 +15,7 @@ use disk_face::{Disk, DiskFault, length_of};
 use flush_plan::{Packing, numbers_again};
 use flush_run::{Halted, Hands, TableShelf, resume};
 use held_guard::Guard;
+use logged_pair::Slots;
 use reopen::{BoxedLoaded, OpenFault, load_state};
 use segment_layout::Layout;
 use size_class::SIZE_MAX;
@@ -185,7 +186,7 @@ fn hands_of<const C: usize>(
         table,
         layout: *layout,
         guard,
-        slots,
+        slots: Slots::Plain(slots),
         ledger: no_bytes(),
         buf,
         base: head_len(block.names),

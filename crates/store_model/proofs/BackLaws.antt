@@ -1,6 +1,7 @@
 -- What going back to the last checkpoint leaves.
 use Rattle.std.specs.Prelude.{◌≡◌, ℕ, List, [], refl}
 use Rattle.std.proofs.Common.{arith, ap, sym, ◌∙◌, subst}
+use Rattle.logged_pair.specs.Slots.{used_in}
 use Rattle.size_class.specs.declared.TheConstants.{SIZE_MAX}
 use Rattle.segment_layout.specs.Books.{Book}
 use Rattle.segment_layout.specs.Layouts.{grid_of}
@@ -73,9 +74,10 @@ module _ {C : ℕ} (s : Inside C) (whole : IsWhole s) (table : Extents) (guard :
   back_view = λ i. record (kept_of s) {
     now = now i;
     kept = kept i;
-    book = digested_book C s.hands.slots.block.k (whole.kept_caps i) (grid_of s.kept_layout) (now i)
+    book = digested_book C (used_in s.hands.slots).block.k (whole.kept_caps i) (grid_of s.kept_layout) (now i)
         (digests_seen s.hands.version (digests i));
-    kept_book = digested_book C s.hands.slots.block.k (whole.kept_caps i) (grid_of s.kept_layout) (kept i)
+    kept_book = digested_book C (used_in s.hands.slots).block.k (whole.kept_caps i) (grid_of s.kept_layout)
+        (kept i)
         (digests_seen s.hands.version (kept_digests i));
   }
 
@@ -85,6 +87,7 @@ module _ {C : ℕ} (s : Inside C) (whole : IsWhole s) (table : Extents) (guard :
   back_whole is_table names cap spans room = record {
     classes = whole.classes;
     wide = whole.wide;
+    plain = whole.plain;
     version = whole.version;
     base = whole.base;
     few = whole.few;

@@ -2,6 +2,7 @@
 use Rattle.std.specs.Prelude.{◌≡◌, ℕ, ◌+◌, ◌*◌, ◌≤◌, ◌<◌, ◌^◌, Bool, true, false, ◌||◌, List, Option, Some, None, option_map, Result, Ok, Err, IfSome, IsTrue, refl}
 use Rattle.std.proofs.Common.{ap, arith, sym, ◌∙◌, subst, inl, inr}
 use Rattle.std.specs.FinMap as fin
+use Rattle.logged_pair.specs.Slots.{used_in}
 use Rattle.disk_face.specs.Counts.{HasCause}
 use Rattle.disk_face.specs.States as disk
 use Rattle.disk_face.specs.Writes.{KeepsDisk}
@@ -142,14 +143,14 @@ module _ {C : ℕ} (s : Inside C) (t : StoreValue) (is : kept_of s ≡ t) (whole
     (served : refused_by t (ask.change c) ≡ None) (a : disk.State) (over : IsConnected C t a)
     (hands1 : Hands C) (v : Lift) (place : ℕ) (bytes : List ℕ)
     (made : IsBegun C (parts_of s.hands) c (parts_of hands1) (phase_now v.course hands1.table) place)
-    (object : bytes_of c ≡ bytes) (began : Began C) (at : began.sequence ≡ s.hands.slots.sequence)
+    (object : bytes_of c ≡ bytes) (began : Began C) (at : began.sequence ≡ (used_in s.hands.slots).sequence)
     (row : cells_of began.moved ≡ cells_of s.hands.ledger.moved)
     (many : began.left ≡ 2 * fin.len hands1.table.now + 1)
     (needs_flush : is_quiet (charges_of t c) ≡ false) (d : disk.State)
     (left : (x : HandsValue) (e : Change) (g : BeforeChange)
     → CanMakeFlush C x e g (parts_of hands1) (lift_start (phase_now v.course hands1.table) place) bytes a
     → IsTrue a.tells → LeavesOldOrNew (flight_of C x e v.course.numbers.reach g)
-    (hands1.slots.sequence + 1) a d)
+    ((used_in hands1.slots).sequence + 1) a d)
     (most : d.turn ≤ a.turn + 2) (frame : KeepsDisk a d) where
   pub can : IsServed t c
   can = is_served t c served
@@ -157,7 +158,7 @@ module _ {C : ℕ} (s : Inside C) (t : StoreValue) (is : kept_of s ≡ t) (whole
   pub unbroken : s.broken ≡ false
   unbroken = ap (λ (x : StoreValue). x.is_broken) is ∙ can.whole
 
-  pub fresh : s.hands.slots.sequence < 2 ^ 61
+  pub fresh : (used_in s.hands.slots).sequence < 2 ^ 61
   fresh = omega (arith, can.fresh, ap (λ (x : StoreValue). x.in_use.sequence) is)
 
   pub over_here : IsTrue a.tells → IsOver C (kept_of s) a.file
@@ -208,7 +209,7 @@ module _ {C : ℕ} (s : Inside C) (t : StoreValue) (is : kept_of s ≡ t) (whole
   module _ (flies : (x : HandsValue) (e : Change) (g : BeforeChange)
       → CanMakeFlush C x e g (parts_of hands1) (lift_start (phase_now v.course hands1.table) place) bytes a
       → IsTrue a.tells
-      → IsMidFlush (flight_of C x e v.course.numbers.reach g) hands1.slots hands1.table d) where
+      → IsMidFlush (flight_of C x e v.course.numbers.reach g) (used_in hands1.slots) hands1.table d) where
     half_at : IsTrue a.tells → (rests : Bool) → (IsTrue rests → RestsOnTable (base_of (kept_of s))
         (kept_of s).kept a) → HalfAgrees C new hand (origin_of (kept_of s) c a.file rests) d
     half_at told rests given = begun_half s whole unbroken c can.named fresh a over_here hands1 v place bytes

@@ -6,6 +6,7 @@ use Rattle.disk_face.specs.States as disk
 use Rattle.disk_face.specs.Counts.{HasCause}
 use Rattle.size_class.specs.Rows.{cells_of}
 use Rattle.slot_codec.specs.Names.{IsName}
+use Rattle.logged_pair.specs.Slots.{used_in}
 use Rattle.map_model.specs.Requests as ask
 use Rattle.map_model.specs.Requests.{Change}
 use Rattle.segment_layout.specs.Books.{is_quiet}
@@ -58,7 +59,7 @@ module _ {C : ℕ} (s : Inside C) (t : StoreValue) (is : kept_of s ≡ t) (whole
   unbroken : s.broken ≡ false
   unbroken = ap (λ (x : StoreValue). x.is_broken) is ∙ can.whole
 
-  fresh : s.hands.slots.sequence < 2 ^ 61
+  fresh : (used_in s.hands.slots).sequence < 2 ^ 61
   fresh = omega (arith, can.fresh, ap (λ (x : StoreValue). x.in_use.sequence) is)
 
   over_here : IsTrue a.tells → IsOver C (kept_of s) a.file
@@ -74,7 +75,8 @@ module _ {C : ℕ} (s : Inside C) (t : StoreValue) (is : kept_of s ≡ t) (whole
   module _ (hands2 : Hands C) (d : disk.State)
       (left : (x : HandsValue) (e : Change) (g : BeforeChange)
       → CanMakeFlush C x e g (parts_of hands1) (lift_start p place) bytes a
-      → IsTrue a.tells → LeavesOldOrNew (flight_of C x e p.numbers.reach g) (hands2.slots.sequence + 1) a d)
+      → IsTrue a.tells → LeavesOldOrNew (flight_of C x e p.numbers.reach g)
+      ((used_in hands2.slots).sequence + 1) a d)
       (made : HasMadeFlush p.numbers.boundary p.items a d (parts_of hands1) (parts_of hands2))
       (needs_flush : is_quiet (charges_of t c) ≡ false) where
     flown : IsFlown s c hands1 p place bytes hands2 a d
@@ -103,15 +105,16 @@ module _ {C : ℕ} (s : Inside C) (t : StoreValue) (is : kept_of s ≡ t) (whole
     module _ (ends : (x : HandsValue) (e : Change) (g : BeforeChange)
         → CanMakeFlush C x e g (parts_of hands1) (lift_start p place) bytes a
         → FlushEnds C (flight_of C x e p.numbers.reach g) (parts_of hands2) d)
-        (low : hands1.slots.sequence + 1 ≤ hands2.slots.sequence)
-        (high : hands2.slots.sequence ≤ hands1.slots.sequence + 2 * hands1.slots.block.k)
+        (low : (used_in hands1.slots).sequence + 1 ≤ (used_in hands2.slots).sequence)
+        (high : (used_in hands2.slots).sequence ≤ (used_in hands1.slots).sequence
+        + 2 * (used_in hands1.slots).block.k)
       where
         pub flush_done_whole : IsWhole (record s { hands = hands2; kept_layout = hands2.layout })
         flush_done_whole = done_whole s c hands1 p place bytes hands2 a d flown ends low high
 
         pub flush_done : {E : Type 0}
             → CallsSoFar a.turn d.turn (cells_of hands1.ledger.moved) (cells_of hands2.ledger.moved) 4
-            (hands2.slots.sequence - hands1.slots.sequence) (fin.len hands1.table.now)
+            ((used_in hands2.slots).sequence - (used_in hands1.slots).sequence) (fin.len hands1.table.now)
             → HasCause {T = Unit {0}} {E = E} a.faults d.faults (Ok tt)
             → ServesChange C c t (kept_of (record s { hands = hands2; kept_layout = hands2.layout })) a d
             (Ok (record { kept = true }))

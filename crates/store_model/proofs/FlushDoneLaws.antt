@@ -11,6 +11,7 @@ use Rattle.slot_codec.specs.Readable.{IsSuperBlock}
 use Rattle.slot_codec.specs.Reading.{is_version}
 use Rattle.slot_codec.specs.Spelling.{cap, head_len}
 use Rattle.slot_codec.specs.declared.codec.SuperBlock.{SuperBlock}
+use Rattle.logged_pair.specs.Slots.{has_logs, used_in}
 use Rattle.map_model.specs.Requests as ask
 use Rattle.map_model.specs.Requests.{Change, changed}
 use Rattle.segment_layout.specs.Books.{Book, is_quiet, next_book, trigger, volumes, with_digests}
@@ -60,7 +61,7 @@ module _ {C : ℕ} (s : Inside C) (c : Change) (hands1 : Hands C) (p : PlanState
 
   -- ---- what stays
 
-  same_block : hands2.slots.block ≡ s.hands.slots.block
+  same_block : (used_in hands2.slots).block ≡ (used_in s.hands.slots).block
   same_block = w.made.keeps.block ∙ ap (λ (y : HandsValue). y.in_use.block) w.begun.rest
 
   same_base : hands2.base ≡ s.hands.base
@@ -78,9 +79,13 @@ module _ {C : ℕ} (s : Inside C) (c : Change) (hands1 : Hands C) (p : PlanState
   same_cap : hands2.table.cap ≡ s.hands.table.cap
   same_cap = w.made.keeps.cap ∙ w.begun.cap
 
+  same_form : has_logs hands2.slots ≡ has_logs s.hands.slots
+  same_form = w.made.keeps.same_form ∙ ap (λ (y : HandsValue). y.has_logs) w.begun.rest
+
   -- no more names are live than a table of the version has records
   fits : FitsVersion (parts_of hands2)
   fits = record {
+    plain = same_form ∙ w.whole.plain;
     known = subst (λ v. IsTrue (is_version v)) (sym same_version) w.whole.version;
     few = subst (λ n. fin.len hands2.table.now ≤ n)
         (same_cap ∙ w.whole.cap ∙ (λ i. cap ((sym same_block) i).names ((sym same_version) i)))
@@ -96,7 +101,7 @@ module _ {C : ℕ} (s : Inside C) (c : Change) (hands1 : Hands C) (p : PlanState
   same_room : hands2.guard.room ≡ s.hands.guard.room
   same_room = w.made.keeps.room ∙ ap (λ (y : HandsValue). y.room) w.begun.rest
 
-  same_sequence : hands1.slots.sequence ≡ s.hands.slots.sequence
+  same_sequence : (used_in hands1.slots).sequence ≡ (used_in s.hands.slots).sequence
   same_sequence = ap (λ (y : HandsValue). y.in_use.sequence) w.begun.rest
 
   same_moved : cells_of hands1.ledger.moved ≡ cells_of s.hands.ledger.moved
@@ -112,15 +117,16 @@ module _ {C : ℕ} (s : Inside C) (c : Change) (hands1 : Hands C) (p : PlanState
   asked_is = w.made.keeps.asked ∙ w.begun.asked
 
   most_is : CallsSoFar a.turn d.turn ks.moved (cells_of hands2.ledger.moved) (piece_calls + 4)
-      (hands2.slots.sequence - ks.in_use.sequence + 1) (names_after ks c)
+      ((used_in hands2.slots).sequence - ks.in_use.sequence + 1) (names_after ks c)
   most_is = subst (λ n. CallsSoFar a.turn d.turn ks.moved (cells_of hands2.ledger.moved) (piece_calls + 4)
-      (hands2.slots.sequence - ks.in_use.sequence + 1) n) names_are
+      ((used_in hands2.slots).sequence - ks.in_use.sequence + 1) n) names_are
       (subst (λ q. CallsSoFar a.turn d.turn ks.moved (cells_of hands2.ledger.moved) (piece_calls + 4)
-      (hands2.slots.sequence - q + 1) (fin.len hands1.table.now)) same_sequence
+      ((used_in hands2.slots).sequence - q + 1) (fin.len hands1.table.now)) same_sequence
       (subst (λ r. CallsSoFar a.turn d.turn r (cells_of hands2.ledger.moved) (piece_calls + 4)
-      (hands2.slots.sequence - hands1.slots.sequence + 1) (fin.len hands1.table.now)) same_moved w.made.most))
+      ((used_in hands2.slots).sequence - (used_in hands1.slots).sequence + 1) (fin.len hands1.table.now))
+      same_moved w.made.most))
 
-  few_saves_is : hands2.slots.sequence ≤ ks.in_use.sequence + 2 * ks.in_use.block.k
+  few_saves_is : (used_in hands2.slots).sequence ≤ ks.in_use.sequence + 2 * ks.in_use.block.k
   few_saves_is = omega (
     arith,
     w.made.few_saves,
@@ -128,7 +134,7 @@ module _ {C : ℕ} (s : Inside C) (c : Change) (hands1 : Hands C) (p : PlanState
     ap (λ (y : HandsValue). y.in_use.block.k) w.begun.rest,
   )
 
-  few_image : hands2.slots.sequence + 1 ≤ ks.in_use.sequence + 2 * ks.in_use.block.k + 1
+  few_image : (used_in hands2.slots).sequence + 1 ≤ ks.in_use.sequence + 2 * ks.in_use.block.k + 1
   few_image = omega (arith, few_saves_is)
 
   content_is : IsTrue a.tells → IsFlushImage C ks c a.file d.file
@@ -208,8 +214,9 @@ module _ {C : ℕ} (s : Inside C) (c : Change) (hands1 : Hands C) (p : PlanState
   module _ (ends : (x : HandsValue) (e : Change) (g : BeforeChange)
       → CanMakeFlush C x e g (parts_of hands1) (lift_start p place) bytes a
       → FlushEnds C (flight_of C x e p.numbers.reach g) (parts_of hands2) d)
-      (low : hands1.slots.sequence + 1 ≤ hands2.slots.sequence)
-      (high : hands2.slots.sequence ≤ hands1.slots.sequence + 2 * hands1.slots.block.k)
+      (low : (used_in hands1.slots).sequence + 1 ≤ (used_in hands2.slots).sequence)
+      (high : (used_in hands2.slots).sequence ≤ (used_in hands1.slots).sequence
+      + 2 * (used_in hands1.slots).block.k)
     where
       abbrev done_inside : Inside C
       done_inside = record s { hands = hands2; kept_layout = hands2.layout }
@@ -221,7 +228,7 @@ module _ {C : ℕ} (s : Inside C) (c : Change) (hands1 : Hands C) (p : PlanState
       any_ends : FlushEnds C (flight_of C x0 c p.numbers.reach any.0) (parts_of hands2) d
       any_ends = ends x0 c any.0 any.1
 
-      view : IsFlushed C hands2.slots hands2.table.now (saved_digests (parts_of hands2))
+      view : IsFlushed C (used_in hands2.slots) hands2.table.now (saved_digests (parts_of hands2))
           (caps_of hands2.layout) (grid_of hands2.layout) (kept_of done_inside)
       view = flushed_view s hands2 any_ends.kept any_ends.kept_digests
 
@@ -234,18 +241,18 @@ module _ {C : ℕ} (s : Inside C) (c : Change) (hands1 : Hands C) (p : PlanState
           next_digests ks.in_use.block.k any.0.map ks.book c
           ∙ sym (next_digests ks.in_use.block.k m ks.book c) in
           any_ends.book ∙ sym (w.begun.lifts any.0 any.1.sized).book
-          ∙ ap (λ (ds : Option Map). with_digests ds (book_of (laid C SIZE_MAX hands1.slots.block.k
+          ∙ ap (λ (ds : Option Map). with_digests ds (book_of (laid C SIZE_MAX (used_in hands1.slots).block.k
           p.numbers.reach (phase_header p (caps_of hands1.layout) (grid_of hands1.layout))
           hands1.table.now))) same
           ∙ (w.begun.lifts (record any.0 { map = m }) sized).book
 
-      names_now : hands2.table.names ≡ hands2.slots.block.names
+      names_now : hands2.table.names ≡ (used_in hands2.slots).block.names
       names_now = same_names ∙ w.whole.room ∙ ap (λ (b : SuperBlock). b.names) (sym same_block)
 
-      block_now : IsSuperBlock hands2.slots.block
+      block_now : IsSuperBlock (used_in hands2.slots).block
       block_now = subst IsSuperBlock (sym same_block) (w.whole.sound w.unbroken).block
 
-      base_now : head_len hands2.slots.block.names ≡ s.hands.base
+      base_now : head_len (used_in hands2.slots).block.names ≡ s.hands.base
       base_now = ap (λ (b : SuperBlock). head_len b.names) same_block ∙ sym w.whole.base
 
       pub done_store : IsStore C (kept_of done_inside)
@@ -253,7 +260,7 @@ module _ {C : ℕ} (s : Inside C) (c : Change) (hands1 : Hands C) (p : PlanState
           fits (kept_of done_inside) view
 
       pub done_whole : IsWhole done_inside
-      done_whole = flushed_whole s hands2 w.whole same_version same_block same_base same_buffer
+      done_whole = flushed_whole s hands2 w.whole same_form same_version same_block same_base same_buffer
           any_ends.divisor
           same_names same_cap same_room any_ends.table any_ends.kept any_ends.empty done_store
 
@@ -295,7 +302,7 @@ module _ {C : ℕ} (s : Inside C) (c : Change) (hands1 : Hands C) (p : PlanState
             (omega (arith, high, same_sequence, ap (λ (y : HandsValue). y.in_use.block.k) w.begun.rest))
 
       pub done_flush : (done : Done) (x : Unit {0}) → CallsSoFar a.turn d.turn (cells_of hands1.ledger.moved)
-          (cells_of hands2.ledger.moved) 4 (hands2.slots.sequence - hands1.slots.sequence)
+          (cells_of hands2.ledger.moved) 4 ((used_in hands2.slots).sequence - (used_in hands1.slots).sequence)
           (fin.len hands1.table.now)
           → {E : Type 0} → HasCause {E = E} a.faults d.faults (Ok x)
           → IsFlush C c ks (kept_of done_inside) a d (Ok done)
@@ -305,7 +312,7 @@ module _ {C : ℕ} (s : Inside C) (c : Change) (hands1 : Hands C) (p : PlanState
           sizes = sizes_are;
           book = book_is;
           kept = any_ends.kept;
-          kept_book = λ i. digested_book C hands2.slots.block.k (caps_of hands2.layout)
+          kept_book = λ i. digested_book C (used_in hands2.slots).block.k (caps_of hands2.layout)
               (grid_of hands2.layout) (any_ends.kept i) (digests_seen hands2.version
               (any_ends.kept_digests i));
           asked = asked_is;
@@ -321,11 +328,12 @@ module _ {C : ℕ} (s : Inside C) (c : Change) (hands1 : Hands C) (p : PlanState
             (kept_of done_inside) view base_now (still told);
         few_saves = few_saves_is;
         calls = subst (λ n. CallsSoFar a.turn d.turn ks.moved (cells_of hands2.ledger.moved) 4
-            (hands2.slots.sequence - ks.in_use.sequence) n) names_are
+            ((used_in hands2.slots).sequence - ks.in_use.sequence) n) names_are
             (subst (λ q. CallsSoFar a.turn d.turn ks.moved (cells_of hands2.ledger.moved) 4
-            (hands2.slots.sequence - q) (fin.len hands1.table.now)) same_sequence
+            ((used_in hands2.slots).sequence - q) (fin.len hands1.table.now)) same_sequence
             (subst (λ r. CallsSoFar a.turn d.turn r (cells_of hands2.ledger.moved) 4
-            (hands2.slots.sequence - hands1.slots.sequence) (fin.len hands1.table.now)) same_moved calls));
+            ((used_in hands2.slots).sequence - (used_in hands1.slots).sequence) (fin.len hands1.table.now))
+            same_moved calls));
         most = most_is;
         lower = lower_is;
         few = few_is;
@@ -350,14 +358,15 @@ module _ {C : ℕ} (s : Inside C) (c : Change) (hands1 : Hands C) (p : PlanState
   module _ (ends : (x : HandsValue) (e : Change) (g : BeforeChange)
       → CanMakeFlush C x e g (parts_of hands1) (lift_start p place) bytes a
       → FlushEnds C (flight_of C x e p.numbers.reach g) (parts_of hands2) d)
-      (low : hands1.slots.sequence + 1 ≤ hands2.slots.sequence)
-      (high : hands2.slots.sequence ≤ hands1.slots.sequence + 2 * hands1.slots.block.k)
+      (low : (used_in hands1.slots).sequence + 1 ≤ (used_in hands2.slots).sequence)
+      (high : (used_in hands2.slots).sequence ≤ (used_in hands1.slots).sequence
+      + 2 * (used_in hands1.slots).block.k)
     where
       abbrev after : StoreValue
       after = kept_of (record s { hands = hands2; kept_layout = hands2.layout })
 
       pub done_seen : {E : Type 0} (done : Done) → CallsSoFar a.turn d.turn (cells_of hands1.ledger.moved)
-          (cells_of hands2.ledger.moved) 4 (hands2.slots.sequence - hands1.slots.sequence)
+          (cells_of hands2.ledger.moved) 4 ((used_in hands2.slots).sequence - (used_in hands1.slots).sequence)
           (fin.len hands1.table.now)
           → HasCause {T = Unit {0}} {E = E} a.faults d.faults (Ok tt) → IsFlush C c t after a d (Ok done)
       done_seen done calls cause = subst (λ (x : StoreValue). IsFlush C c x after a d (Ok done)) is

@@ -10,6 +10,7 @@ use Rattle.disk_face.specs.Moments.{Leaves}
 use Rattle.disk_face.proofs.MomentLaws.{Leaves-weaken}
 use Rattle.size_class.specs.declared.TheConstants.{SIZE_MAX}
 use Rattle.slot_codec.specs.Names.{IsName}
+use Rattle.logged_pair.specs.Slots.{used_in}
 use Rattle.map_model.specs.Maps.{Map}
 use Rattle.map_model.specs.Requests as ask
 use Rattle.map_model.specs.Requests.{Change, changed}
@@ -77,7 +78,7 @@ module _ {C : ℕ} (s : Inside C) (whole : IsWhole s) (unbroken : s.broken ≡ f
   x0 = parts_of s.hands
 
   abbrev k : ℕ
-  k = s.hands.slots.block.k
+  k = (used_in s.hands.slots).block.k
 
   pub h : IsStore C ks
   h = whole.sound unbroken
@@ -96,6 +97,7 @@ module _ {C : ℕ} (s : Inside C) (whole : IsWhole s) (unbroken : s.broken ≡ f
     cap = whole.cap;
     room = whole.guard_room;
     divisor = whole.divisor;
+    plain = whole.plain;
     version = whole.version;
   }
 

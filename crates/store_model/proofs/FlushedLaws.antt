@@ -9,6 +9,7 @@ use Rattle.slot_codec.specs.Choice as choice
 use Rattle.slot_codec.specs.Readable.{IsSuperBlock}
 use Rattle.slot_codec.specs.Reading.{is_version}
 use Rattle.slot_codec.specs.Spelling.{cap, cap as cap_of, head_len}
+use Rattle.logged_pair.specs.Slots.{has_logs, used_in}
 use Rattle.map_model.specs.Maps.{Map}
 use Rattle.segment_layout.specs.Books.{Book, version_of}
 use Rattle.segment_layout.specs.Layouts.{caps_of, divisor_of, grid_of}
@@ -60,24 +61,28 @@ flushed_is u now digests caps grid s is = λ i. record s {
 
 module _ {C : ℕ} (hands : Hands C) (flight : FlushFrame) (d : disk.State)
     (ends : FlushEnds C (record flight { classes = C; size_max = SIZE_MAX }) (parts_of hands) d)
-    (names : hands.table.names ≡ hands.slots.block.names) (block : IsSuperBlock hands.slots.block)
+    (names : hands.table.names ≡ (used_in hands.slots).block.names)
+    (block : IsSuperBlock (used_in hands.slots).block)
     (version : FitsVersion (parts_of hands)) (s : StoreValue)
-    (is : IsFlushed C hands.slots hands.table.now (saved_digests (parts_of hands)) (caps_of hands.layout)
+    (is : IsFlushed C (used_in hands.slots) hands.table.now (saved_digests (parts_of hands))
+    (caps_of hands.layout)
     (grid_of hands.layout) s) where
   abbrev f : FlushFrame
   f = record flight { classes = C; size_max = SIZE_MAX }
 
   abbrev as_flushed : StoreValue
-  as_flushed = flushed_as C hands.slots hands.table.now (saved_digests (parts_of hands))
+  as_flushed = flushed_as C (used_in hands.slots) hands.table.now (saved_digests (parts_of hands))
       (caps_of hands.layout) (grid_of hands.layout) s
 
   same : as_flushed ≡ s
-  same = flushed_is hands.slots hands.table.now (saved_digests (parts_of hands)) (caps_of hands.layout)
+  same = flushed_is (used_in hands.slots) hands.table.now (saved_digests (parts_of hands))
+      (caps_of hands.layout)
       (grid_of hands.layout) s is
 
-  few : fin.len hands.table.now ≤ cap hands.slots.block.names (version_of as_flushed.book)
-  few = subst (λ v. fin.len hands.table.now ≤ cap hands.slots.block.names v)
-      (sym (version_seen hands.version hands.table.digests (shown_book C SIZE_MAX hands.slots.block.k
+  few : fin.len hands.table.now ≤ cap (used_in hands.slots).block.names (version_of as_flushed.book)
+  few = subst (λ v. fin.len hands.table.now ≤ cap (used_in hands.slots).block.names v)
+      (sym (version_seen hands.version hands.table.digests (shown_book C SIZE_MAX
+      (used_in hands.slots).block.k
       (caps_of hands.layout) (grid_of hands.layout) hands.table.now) version.known)) version.few
 
   -- the store keeps what a store keeps
@@ -95,11 +100,12 @@ module _ {C : ℕ} (hands : Hands C) (flight : FlushFrame) (d : disk.State)
     fuller = CellsRise-itself (grid_of hands.layout);
   })
 
-  module _ (base : head_len hands.slots.block.names ≡ f.base) (told : IsTrue d.tells) where
+  module _ (base : head_len (used_in hands.slots).block.names ≡ f.base) (told : IsTrue d.tells) where
     abbrev file : List ℕ
     file = d.file
 
-    settled : IsSettled f hands.slots hands.table.now (end_of hands.slots.block.k (caps_of hands.layout))
+    settled : IsSettled f (used_in hands.slots) hands.table.now
+        (end_of (used_in hands.slots).block.k (caps_of hands.layout))
         d.file d.may_leave
     settled = ends.file told
 
@@ -137,14 +143,14 @@ module _ {C : ℕ} (hands : Hands C) (flight : FlushFrame) (d : disk.State)
       kept = f.new_map;
       book = f.new_book;
       kept_book = f.new_book;
-      sequence = hands.slots.sequence;
+      sequence = (used_in hands.slots).sequence;
     }
     ended_state = ap (λ (x : StoreValue). state_of x file) (sym same) ∙ (λ i. record {
       map = map_is i;
       kept = map_is i;
       book = shown i;
       kept_book = shown i;
-      sequence = hands.slots.sequence;
+      sequence = (used_in hands.slots).sequence;
     })
 
 -- ---- the fields
@@ -155,27 +161,31 @@ module _ {C : ℕ} (s : Inside C) (hands : Hands C) where
   flushed_inside = record s { hands = hands; kept_layout = hands.layout }
 
   pub flushed_view : hands.table.kept ≡ hands.table.now → hands.table.kept_digests ≡ hands.table.digests
-      → IsFlushed C hands.slots hands.table.now (saved_digests (parts_of hands)) (caps_of hands.layout)
+      → IsFlushed C (used_in hands.slots) hands.table.now (saved_digests (parts_of hands))
+      (caps_of hands.layout)
       (grid_of hands.layout) (kept_of flushed_inside)
   flushed_view kept kept_digests = record {
     in_use = refl;
     same_now = refl;
     kept = kept;
     book = refl;
-    kept_book = λ i. digested_book C hands.slots.block.k (caps_of hands.layout) (grid_of hands.layout)
+    kept_book = λ i. digested_book C (used_in hands.slots).block.k (caps_of hands.layout)
+        (grid_of hands.layout)
         (kept i) (digests_seen hands.version (kept_digests i));
   }
 
-  pub flushed_whole : IsWhole s → hands.version ≡ s.hands.version → hands.slots.block ≡ s.hands.slots.block
+  pub flushed_whole : IsWhole s → has_logs hands.slots ≡ has_logs s.hands.slots → hands.version
+      ≡ s.hands.version → (used_in hands.slots).block ≡ (used_in s.hands.slots).block
       → hands.base ≡ s.hands.base
-      → vec_len hands.buf ≡ 65536 → divisor_of hands.layout ≡ hands.slots.block.k
+      → vec_len hands.buf ≡ 65536 → divisor_of hands.layout ≡ (used_in hands.slots).block.k
       → hands.table.names ≡ s.hands.table.names → hands.table.cap ≡ s.hands.table.cap
       → hands.guard.room ≡ s.hands.guard.room → IsTable hands.table
       → hands.table.kept ≡ hands.table.now → hands.guard.spans ≡ [] → IsStore C (kept_of flushed_inside)
       → IsWhole flushed_inside
-  flushed_whole whole version block base buf divisor names cap room table kept spans store = record {
+  flushed_whole whole form version block base buf divisor names cap room table kept spans store = record {
     classes = whole.classes;
     wide = whole.wide;
+    plain = form ∙ whole.plain;
     version = subst (λ v. IsTrue (is_version v)) (sym version) whole.version;
     base = base ∙ whole.base ∙ ap (λ b. head_len b.names) (sym block);
     few = omega (arith, whole.few, ap (λ b. b.names) block);

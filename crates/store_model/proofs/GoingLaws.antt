@@ -81,6 +81,7 @@ module _ {C : ℕ} (x : Loaded C) (loads : KeepsLoaded x) (moving : x.header.kin
   -- no more names are live than a table of its version has records
   fits : FitsVersion there
   fits = record {
+    plain = starts.plain;
     known = loads.version;
     few = subst (λ m. fin.len now ≤ m)
         (loads.cap ∙ (λ i. cap ((sym loads.same_block) i).names x.header.version)) loads.few;

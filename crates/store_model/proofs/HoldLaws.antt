@@ -10,6 +10,7 @@ use Rattle.slot_codec.specs.Names.{IsName}
 use Rattle.slot_codec.specs.Reading.{is_version}
 use Rattle.slot_codec.specs.Spelling.{cap, head_len}
 use Rattle.slot_codec.specs.declared.codec.SuperBlock.{SuperBlock}
+use Rattle.logged_pair.specs.Slots.{used_in}
 use Rattle.map_model.specs.Maps.{Map}
 use Rattle.map_model.specs.Requests.{Change}
 use Rattle.segment_layout.specs.Books.{next_book, trigger, with_digests}
@@ -48,11 +49,11 @@ use Rattle.store_model.proofs.FlushLaws.{can_fly, flush_content, flush_left, loo
 use Rattle.store_model.proofs.MadeFlushLaws.{len_after, same_charges, sizes_after}
 
 module _ {C : ℕ} (s : Inside C) (whole : IsWhole s) (unbroken : s.broken ≡ false) (c : Change)
-    (name : IsName c.name) (fresh : s.hands.slots.sequence < 2 ^ 61) (a : disk.State)
+    (name : IsName c.name) (fresh : (used_in s.hands.slots).sequence < 2 ^ 61) (a : disk.State)
     (over : IsTrue a.tells → IsOver C (kept_of s) a.file) (hands1 : Hands C) (v : Lift) (place : ℕ)
     (bytes : List ℕ)
     (begun : IsBegun C (parts_of s.hands) c (parts_of hands1) (phase_now v.course hands1.table) place)
-    (object : bytes_of c ≡ bytes) (began : Began C) (at : began.sequence ≡ s.hands.slots.sequence)
+    (object : bytes_of c ≡ bytes) (began : Began C) (at : began.sequence ≡ (used_in s.hands.slots).sequence)
     (row : cells_of began.moved ≡ cells_of s.hands.ledger.moved)
     (many : began.left ≡ 2 * fin.len hands1.table.now + 1) where
   abbrev ks : StoreValue
@@ -81,19 +82,20 @@ module _ {C : ℕ} (s : Inside C) (whole : IsWhole s) (unbroken : s.broken ≡ f
 
   -- ---- what stays
 
-  same_block : hands1.slots.block ≡ s.hands.slots.block
+  same_block : (used_in hands1.slots).block ≡ (used_in s.hands.slots).block
   same_block = ap (λ (y : HandsValue). y.in_use.block) begun.rest
 
   same_version : hands1.version ≡ s.hands.version
   same_version = ap (λ (y : HandsValue). y.version) begun.rest
 
-  base_is : s.hands.base ≡ head_len hands1.slots.block.names
+  base_is : s.hands.base ≡ head_len (used_in hands1.slots).block.names
   base_is = whole.base ∙ ap (λ (b : SuperBlock). head_len b.names) (sym same_block)
 
   pub begun_whole : IsWhole (record holding { broken = true })
   begun_whole = record {
     classes = whole.classes;
     wide = whole.wide;
+    plain = ap (λ (y : HandsValue). y.has_logs) begun.rest ∙ whole.plain;
     version = subst (λ n. IsTrue (is_version n)) (sym same_version) whole.version;
     base = ap (λ (y : HandsValue). y.base) begun.rest ∙ base_is;
     few = omega (arith, whole.few, ap (λ (b : SuperBlock). b.names) same_block);
@@ -117,13 +119,15 @@ module _ {C : ℕ} (s : Inside C) (whole : IsWhole s) (unbroken : s.broken ≡ f
   flight g = flight_of C x0 c p.numbers.reach g
 
   lifts_on : (g : BeforeChange) → CanMakeFlush C x0 c g x1 (lift_start p place) bytes a → (d : disk.State)
-      → (IsTrue d.tells → IsMidFlush (flight g) hands1.slots hands1.table d) → GoesOn (flight g) phase x1 d
+      → (IsTrue d.tells → IsMidFlush (flight g) (used_in hands1.slots) hands1.table d) → GoesOn (flight g)
+      phase x1 d
   lifts_on g can d flies = let r = can_run can d flies in record { goes = r.lifts.goes; low = r.lifts.low }
 
   any : (g : BeforeChange) × CanMakeFlush C x0 c g x1 (lift_start p place) bytes a
   any = some_flight s whole unbroken c x1 p place bytes begun name object fresh a over
 
-  still : GoesOn (record (flight any.0) { base = head_len hands1.slots.block.names }) phase x1 untold
+  still : GoesOn (record (flight any.0) { base = head_len (used_in hands1.slots).block.names }) phase x1
+      untold
   still = subst (λ n. GoesOn (record (flight any.0) { base = n }) phase x1 untold) base_is
       (lifts_on any.0 any.1 untold (λ told. absurd (cc)))
 
@@ -156,9 +160,9 @@ module _ {C : ℕ} (s : Inside C) (whole : IsWhole s) (unbroken : s.broken ≡ f
       → hand.book_after ≡ (next_book ks.in_use.block.k m ks.book c).book
   book_is m sized =
       let g : BeforeChange = record any.0 { map = m } in
-      ap (λ (ds : Option Map). with_digests ds (book_of (laid C SIZE_MAX hands1.slots.block.k
+      ap (λ (ds : Option Map). with_digests ds (book_of (laid C SIZE_MAX (used_in hands1.slots).block.k
       p.numbers.reach (phase_header p (caps_of hands1.layout) (grid_of hands1.layout)) hands1.table.now)))
-      (begun.digests ∙ sym (next_digests s.hands.slots.block.k m (book_before C x0) c))
+      (begun.digests ∙ sym (next_digests (used_in s.hands.slots).block.k m (book_before C x0) c))
       ∙ (begun.lifts g sized).book
 
   pub begun_holds : HoldsFlush c ks held hand
@@ -209,10 +213,11 @@ module _ {C : ℕ} (s : Inside C) (whole : IsWhole s) (unbroken : s.broken ≡ f
         new_book = sym (book_is (now_map ks a.file) begun_can.sized) i;
       }
 
-      pub begun_half : (d : disk.State) → IsMidFlush (flight g) hands1.slots hands1.table d
+      pub begun_half : (d : disk.State) → IsMidFlush (flight g) (used_in hands1.slots) hands1.table d
           → HalfAgrees C held hand origin d
       begun_half d mid = record {
-        flies = subst (λ f. MidFlush f hands1.slots hands1.table.now hands1.table.kept d.file d.may_leave)
+        flies = subst (λ f. MidFlush f (used_in hands1.slots) hands1.table.now hands1.table.kept d.file
+            d.may_leave)
             flight_is mid;
         loose = subst (λ (b : SuperBlock). Loose b.k p.numbers.reach (now_map ks a.file)
             (map_after ks c a.file)) (sym same_block)
@@ -220,13 +225,14 @@ module _ {C : ℕ} (s : Inside C) (whole : IsWhole s) (unbroken : s.broken ≡ f
             p.numbers.reach (omega arith));
       }
 
-  few : hands1.slots.sequence + 1 ≤ ks.in_use.sequence + 2 * ks.in_use.block.k + 1
+  few : (used_in hands1.slots).sequence + 1 ≤ ks.in_use.sequence + 2 * ks.in_use.block.k + 1
   few = omega (arith, ap (λ (y : HandsValue). y.in_use.sequence) begun.rest)
 
   module _ (told : IsTrue a.tells) (d : disk.State)
       (left : (x : HandsValue) (e : Change) (g : BeforeChange)
       → CanMakeFlush C x e g x1 (lift_start p place) bytes a
-      → IsTrue a.tells → LeavesOldOrNew (flight_of C x e p.numbers.reach g) (hands1.slots.sequence + 1) a d)
+      → IsTrue a.tells → LeavesOldOrNew (flight_of C x e p.numbers.reach g)
+      ((used_in hands1.slots).sequence + 1) a d)
     where
       pub begun_content : IsFlushImage C ks c a.file d.file
       begun_content = flush_content s whole unbroken c x1 p place bytes begun name object fresh a (over told)

@@ -8,6 +8,7 @@ use Rattle.size_class.specs.declared.TheConstants.{SIZE_MAX}
 use Rattle.data_area.specs.declared.ledger.Ledger.{Ledger}
 use Rattle.segment_layout.specs.declared.layout.Layout.{Layout}
 use Rattle.slot_codec.specs.Spelling.{cap}
+use Rattle.logged_pair.specs.Slots.{used_in}
 use Rattle.segment_layout.specs.Books.{version_of}
 use Rattle.segment_layout.specs.Layouts.{caps_of, divisor_of, grid_of}
 use Rattle.held_guard.specs.Freed.{Freed}
@@ -16,7 +17,6 @@ use Rattle.extent_table.specs.Extents.{Extents, IsTable, Spots, digests_seen}
 use Rattle.placement_model.specs.Held.{IsFreed}
 use Rattle.placement_model.specs.LaidOut.{shown_book}
 use Rattle.store_model.specs.Connection.{StoreValue, base_of, live_cap}
-use Rattle.flush_run.specs.declared.hands.Hands.{Hands}
 use Rattle.flush_run.specs.declared.phase.Phase.{Phase}
 use Rattle.flush_run.specs.Parts.{parts_of}
 use Rattle.flush_run.specs.Phases.{GoesOn, PaidIn}
@@ -37,6 +37,7 @@ pub parts_at : {C : ℕ} (flush : Option (Phase C)) (began : Began C) (s : Insid
 parts_at None began s w = record {
   classes = w.classes;
   wide = w.wide;
+  plain = w.plain;
   version = w.version;
   base = w.base;
   few = w.few;
@@ -81,6 +82,7 @@ pub whole_with : {C : ℕ} (s : Inside C) (items : List ℕ) → vec_len (with_i
 whole_with s items long whole = record {
   classes = whole.classes;
   wide = whole.wide;
+  plain = whole.plain;
   version = whole.version;
   base = whole.base;
   few = whole.few;
@@ -123,12 +125,12 @@ holds_with (Some v) began s items long g =
 -- the version of the book is that of the tables
 pub version_is : {C : ℕ} (s : Inside C) → IsWhole s → version_of (kept_of s).book ≡ s.hands.version
 version_is {C} s whole = version_seen s.hands.version s.hands.table.digests
-    (shown_book C SIZE_MAX s.hands.slots.block.k (caps_of s.hands.layout) (grid_of s.hands.layout)
+    (shown_book C SIZE_MAX (used_in s.hands.slots).block.k (caps_of s.hands.layout) (grid_of s.hands.layout)
     s.hands.table.now) whole.version
 
 -- as many names may be live as the table lets
 pub cap_is : {C : ℕ} (s : Inside C) → IsWhole s → s.hands.table.cap ≡ live_cap (kept_of s)
-cap_is s whole = whole.cap ∙ ap (cap s.hands.slots.block.names) (sym (version_is s whole))
+cap_is s whole = whole.cap ∙ ap (cap (used_in s.hands.slots).block.names) (sym (version_is s whole))
 
 pub few_live : {C : ℕ} (s : Inside C) → IsWhole s → s.broken ≡ false
     → fin.len s.hands.table.now ≤ s.hands.table.cap
@@ -185,9 +187,9 @@ module _ {C : ℕ} (s : Inside C) (t : StoreValue) (is : kept_of s ≡ t) (whole
   changed_view = (λ i. record (kept_of s) {
     now = same_now i;
     kept = kept i;
-    book = digested_book C s.hands.slots.block.k (caps_stay i) (grid_of layout) (same_now i)
+    book = digested_book C (used_in s.hands.slots).block.k (caps_stay i) (grid_of layout) (same_now i)
         (same_digests i);
-    kept_book = digested_book C s.hands.slots.block.k (caps_stay i) (grid_of s.kept_layout) (kept i)
+    kept_book = digested_book C (used_in s.hands.slots).block.k (caps_stay i) (grid_of s.kept_layout) (kept i)
         (digests_seen s.hands.version (kept_digests i));
     moved = moved i;
     asked = cells_of ledger.asked;
@@ -201,6 +203,7 @@ module _ {C : ℕ} (s : Inside C) (t : StoreValue) (is : kept_of s ≡ t) (whole
   changed_whole is_table names cap room divisor store freed = record {
     classes = whole.classes;
     wide = whole.wide;
+    plain = whole.plain;
     version = whole.version;
     base = whole.base;
     few = whole.few;

@@ -16,7 +16,10 @@ use Rattle.slot_codec.specs.declared.codec.Header.{Header}
 use Rattle.slot_codec.specs.declared.codec.Record.{Record}
 use Rattle.slot_codec.proofs.ChoiceLaws.{chosen_sequence, table_chosen}
 use Rattle.slot_codec.proofs.StepLaws.{from_ok}
-use Rattle.slot_pair.specs.Saves.{IsSaved, LeavesEither, SaveLeaves, next_chosen, next_in_use, save_calls}
+use Rattle.slot_pair.specs.Saves.{IsSaved, next_chosen, next_in_use, save_calls}
+use Rattle.logged_pair.specs.Slots.{HasTable, has_logs, used_in}
+use Rattle.logged_pair.specs.declared.slots.Slots.{Slots}
+use Rattle.logged_pair.proofs.PlainSlots.{PlainEither, PlainSaveLeaves, is_saved, plain_has}
 use Rattle.map_model.specs.Requests as ask
 use Rattle.segment_layout.specs.Layouts.{caps_of, grid_of}
 use Rattle.segment_layout.specs.Books.{version_of}
@@ -54,15 +57,19 @@ module _ {classes : ℕ} (s : StoreValue) (h : IsStore classes s) (fresh : s.in_
   abbrev base : ℕ
   base = base_of s
 
-  module _ {a d : disk.State} (over : IsOver classes s a.file)
-      (left : SaveLeaves s.in_use (header_now s) records a d) where
+  module _ {before : List Record} {a d : disk.State} (over : IsOver classes s a.file)
+      (left : PlainSaveLeaves s.in_use (header_now s) before records a d) where
     chosen : choice.chosen a.file ≡ Ok over.table.chosen
     chosen = (table_chosen a.file over.table over.checkpoint.opens.read).0
 
+    has : HasTable false over.table before a.file
+    has = plain_has over.table before a.file over.checkpoint.opens.read
+
     -- the sequence of the last checkpoint, and of what a save leaves, is below the next but one
-    old_sequence : (image : List ℕ) → choice.chosen image ≡ Ok over.table.chosen
+    old_sequence : (image : List ℕ) → choice.table_of image ≡ Ok over.table
         → HasSequenceUpTo (s.in_use.sequence + 1) image
-    old_sequence image is = sequence_of_chosen image over.table.chosen (s.in_use.sequence + 1) is
+    old_sequence image read = sequence_of_chosen image over.table.chosen (s.in_use.sequence + 1)
+        (table_chosen image over.table read).0
         (omega (arith, chosen_sequence a.file s.in_use over.table.chosen over.checkpoint.slot chosen))
 
     new_sequence : (image : List ℕ) → choice.chosen image ≡ Ok (table_now s).chosen
@@ -71,42 +78,43 @@ module _ {classes : ℕ} (s : StoreValue) (h : IsStore classes s) (fresh : s.in_
         sequence_of_chosen image (table_now s).chosen (s.in_use.sequence + 1) is (omega arith)
 
     -- what is saved has as many records as the table of now
-    as_counted : (image : List ℕ)
-        → IsSaved (next_chosen s.in_use (header_now s) (length records)) records image
+    as_counted : (image : List ℕ) → choice.table_of image
+        ≡ Ok (choice.table_with (next_chosen s.in_use (header_now s) (length records)) records)
         → IsSaved (table_now s).chosen records image
-    as_counted image = subst (λ n. IsSaved (next_chosen s.in_use (header_now s) n) records image) count
+    as_counted image read = subst (λ n. IsSaved (next_chosen s.in_use (header_now s) n) records image) count
+        (is_saved s.in_use (header_now s) records image read)
 
     -- each image that a save may leave is of the last checkpoint, or of now
     either_image : RestsOnTable base s.kept a → (image : List ℕ)
-        → LeavesEither s.in_use over.table.chosen (header_now s) records a.may_leave a.file image
+        → PlainEither over.table s.in_use (header_now s) before records a.may_leave a.file image
         → OpensToKeptOrNow classes s a.file image
     either_image rests image (inr new) = record {
       same_length = sym new.data_part.same_length;
       opens = inr (record {
         table = table_now s;
-        opens = now_opens s h a.file over records same_table image (as_counted image new.table)
+        opens = now_opens s h a.file over records same_table image (as_counted image new.table.read)
             new.data_part;
       });
-      sequence = new_sequence image (as_counted image new.table).slot;
+      sequence = new_sequence image (as_counted image new.table.read).slot;
     }
     either_image rests image (inl old) = record {
       same_length = sym old.data_part.same_length ∙ was.same_length;
       opens = inl (record {
         table = over.table;
-        opens = kept_opens s h a.file over old.before image was old.table old.data_part;
+        opens = kept_opens s h a.file over old.from image was old.table.read old.data_part;
       });
-      sequence = old_sequence image old.table.same_slot;
+      sequence = old_sequence image old.table.read;
     }
       where
-        was : SameOnTable base s.kept a.file old.before
-        was = elim old.was as (λ _. SameOnTable base s.kept a.file old.before) [
-          | inl left ↦ rests old.before left
+        was : SameOnTable base s.kept a.file old.from
+        was = elim old.was as (λ _. SameOnTable base s.kept a.file old.from) [
+          | inl left ↦ rests old.from left
           | inr same ↦ subst (SameOnTable base s.kept a.file) (sym same) (same_itself base s.kept a.file)
         ]
 
     pub left_either : RestsOnTable base s.kept a → Leaves a d (OpensToKeptOrNow classes s a.file)
     left_either rests = Leaves-weaken (OpensToKeptOrNow classes s a.file) (either_image rests)
-        (left.images over.table.chosen chosen (omega (arith, fresh)) (λ image is. record {
+        (left.images over.table has (omega (arith, fresh)) (λ image is. record {
           long = omega (arith, over.same_length, (rests image is).same_length);
           bytes = (rests image is).below;
         }))
@@ -114,21 +122,21 @@ module _ {classes : ℕ} (s : StoreValue) (h : IsStore classes s) (fresh : s.in_
     pub content_either : OpensToKeptOrNow classes s a.file d.file
     content_either = record {
       same_length = sym left.data_part.same_length;
-      opens = elim (left.old_or_new over.table.chosen chosen (omega (arith, fresh))) [
+      opens = elim (left.old_or_new over.table has (omega (arith, fresh))) [
         | inl keeps ↦ inl (record {
           table = over.table;
-          opens = kept_opens s h a.file over a.file d.file (same_itself base s.kept a.file) keeps
+          opens = kept_opens s h a.file over a.file d.file (same_itself base s.kept a.file) keeps.read
               left.data_part;
         })
         | inr saved ↦ inr (record {
           table = table_now s;
-          opens = now_opens s h a.file over records same_table d.file (as_counted d.file saved)
+          opens = now_opens s h a.file over records same_table d.file (as_counted d.file saved.read)
               left.data_part;
         })
       ];
-      sequence = elim (left.old_or_new over.table.chosen chosen (omega (arith, fresh))) [
-        | inl keeps ↦ old_sequence d.file keeps.same_slot
-        | inr saved ↦ new_sequence d.file (as_counted d.file saved).slot
+      sequence = elim (left.old_or_new over.table has (omega (arith, fresh))) [
+        | inl keeps ↦ old_sequence d.file keeps.read
+        | inr saved ↦ new_sequence d.file (as_counted d.file saved.read).slot
       ];
     }
 
@@ -139,8 +147,8 @@ module _ {classes : ℕ} (s : StoreValue) (h : IsStore classes s) (fresh : s.in_
   calls_of_names {A} {E} {a} {d} result =
       subst (λ (n : ℕ). Calls (save_calls n) a d result) (count ∙ length-records_of s.now h.now.named)
 
-  module _ {a d : disk.State} (over : IsTrue a.tells → IsOver classes s a.file)
-      (left : IsTrue a.tells → SaveLeaves s.in_use (header_now s) records a d)
+  module _ {before : List Record} {a d : disk.State} (over : IsTrue a.tells → IsOver classes s a.file)
+      (left : IsTrue a.tells → PlainSaveLeaves s.in_use (header_now s) before records a d)
       (frame : KeepsDisk a d)
     where
       pub keeps_saved : (answer : Done) (new : StoreValue) → new ≡ kept_now s
@@ -183,8 +191,9 @@ module _ {classes : ℕ} (s : StoreValue) (h : IsStore classes s) (fresh : s.in_
 
 -- ---- the fields
 
-module _ {C : ℕ} (s : Inside C) (whole : IsWhole s) (table : Extents) (guard : Freed) (slots : choice.InUse)
-    (buf : Vec ℕ) (same_slots : slots ≡ next_in_use s.hands.slots) (now : table.now ≡ s.hands.table.now)
+module _ {C : ℕ} (s : Inside C) (whole : IsWhole s) (table : Extents) (guard : Freed) (slots : Slots)
+    (buf : Vec ℕ) (same_slots : used_in slots ≡ next_in_use (used_in s.hands.slots))
+    (now : table.now ≡ s.hands.table.now)
     (kept : table.kept ≡ s.hands.table.now) (digests : table.digests ≡ s.hands.table.digests)
     (kept_digests : table.kept_digests ≡ s.hands.table.digests) where
   abbrev kept_inside : Inside C
@@ -204,16 +213,19 @@ module _ {C : ℕ} (s : Inside C) (whole : IsWhole s) (table : Extents) (guard :
         (kept i) (digests_seen s.hands.version (kept_digests i));
   }
 
-  pub kept_whole : IsTable table → table.names ≡ s.hands.table.names → table.cap ≡ s.hands.table.cap
+  pub kept_whole : IsTable table → has_logs slots ≡ false → table.names ≡ s.hands.table.names → table.cap
+      ≡ s.hands.table.cap
       → guard.spans ≡ []
       → guard.room ≡ s.hands.guard.room → vec_len buf ≡ 65536 → IsWhole kept_inside
-  kept_whole is_table names cap spans room full =
-      let names_stay : slots.block.names ≡ s.hands.slots.block.names =
+  kept_whole is_table plain names cap spans room full =
+      let names_stay : (used_in slots).block.names ≡ (used_in s.hands.slots).block.names =
       ap (λ (u : choice.InUse). u.block.names) same_slots in
-      let k_stays : slots.block.k ≡ s.hands.slots.block.k = ap (λ (u : choice.InUse). u.block.k) same_slots in
+      let k_stays : (used_in slots).block.k ≡ (used_in s.hands.slots).block.k =
+      ap (λ (u : choice.InUse). u.block.k) same_slots in
       record {
         classes = whole.classes;
         wide = whole.wide;
+        plain = plain;
         version = whole.version;
         base = whole.base ∙ ap head_len (sym names_stay);
         few = omega (arith, whole.few, names_stay);
@@ -261,10 +273,11 @@ table_is s whole table =
           ∙ ap (λ n. digests_seen n s.hands.table.digests) (version_is s whole)) i;
     }
 
-module _ {C : ℕ} (s : Inside C) (t : StoreValue) (is : kept_of s ≡ t) (whole : IsWhole s)
+module _ {C : ℕ} {before : List Record} (s : Inside C) (t : StoreValue) (is : kept_of s ≡ t)
+    (whole : IsWhole s)
     (unbroken : t.is_broken ≡ false) (fresh : t.in_use.sequence < 2 ^ 61) (h : Header)
     (same : h ≡ header_now (kept_of s)) {a d : disk.State} (connected : IsConnected C t a)
-    (leaves : IsTrue a.tells → SaveLeaves s.hands.slots h (records s) a d)
+    (leaves : IsTrue a.tells → PlainSaveLeaves (used_in s.hands.slots) h before (records s) a d)
     (frame : KeepsDisk a d) where
   store : IsStore C t
   store = (opened s t is whole unbroken).store
@@ -277,8 +290,8 @@ module _ {C : ℕ} (s : Inside C) (t : StoreValue) (is : kept_of s ≡ t) (whole
   count = rolled_count s.hands.table.now s.hands.table.digests
       ∙ ap (λ (x : StoreValue). length (records_of x.now)) is
 
-  left_seen : IsTrue a.tells → SaveLeaves t.in_use (header_now t) (records s) a d
-  left_seen told = seen (λ x h. SaveLeaves x.in_use h (records s) a d) s t is h same (leaves told)
+  left_seen : IsTrue a.tells → PlainSaveLeaves t.in_use (header_now t) before (records s) a d
+  left_seen told = seen (λ x h. PlainSaveLeaves x.in_use h before (records s) a d) s t is h same (leaves told)
 
   pub keep_failed : (refused : Refusal) (new : StoreValue) → new ≡ record (kept_of s) { is_broken = true }
       → Calls {T = Done} (save_calls (length (records s))) a d (Err refused)
@@ -287,9 +300,9 @@ module _ {C : ℕ} (s : Inside C) (t : StoreValue) (is : kept_of s ≡ t) (whole
       (connected.over unbroken) left_seen frame
       refused new (new_is ∙ ap (λ (x : StoreValue). record x { is_broken = true }) is) calls
 
-  module _ (saved : IsTrue a.tells → s.hands.slots.sequence + 1 < worn_from h.kind
-      → IsSaved (next_chosen s.hands.slots h (length (records s))) (records s) d.file)
-      (in_use : IsTrue a.tells → choice.slot_in_use d.file ≡ Ok (next_in_use s.hands.slots))
+  module _ (saved : IsTrue a.tells → (used_in s.hands.slots).sequence + 1 < worn_from h.kind
+      → IsSaved (next_chosen (used_in s.hands.slots) h (length (records s))) (records s) d.file)
+      (in_use : IsTrue a.tells → choice.slot_in_use d.file ≡ Ok (next_in_use (used_in s.hands.slots)))
       (new : StoreValue)
       (new_is : new ≡ kept_now (kept_of s)) where
     saved_seen : IsTrue a.tells → IsSaved (table_now t).chosen (records s) d.file

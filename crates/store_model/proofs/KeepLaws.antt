@@ -9,7 +9,7 @@ use Rattle.size_class.specs.declared.TheConstants.{SIZE_MAX}
 use Rattle.slot_codec.specs.Choice as choice
 use Rattle.slot_codec.specs.declared.codec.Header.{Header}
 use Rattle.slot_codec.specs.declared.codec.Record.{Record}
-use Rattle.slot_pair.specs.Saves.{IsSaved, KeepsTable, next_chosen, next_in_use}
+use Rattle.slot_pair.specs.Saves.{IsSaved, next_chosen, next_in_use}
 use Rattle.map_model.specs.Requests as ask
 use Rattle.segment_layout.specs.Books.{Book, version_of, with_digests}
 use Rattle.segment_layout.specs.Shapes.{end_of}
@@ -25,7 +25,7 @@ use Rattle.placement_model.proofs.ShownLaws.{book_shown}
 use Rattle.flush_run.proofs.SavedLaws.{map_from, new_image_opens, old_image_opens, valid_at}
 use Rattle.store_model.specs.Connection.{IsOver, StoreValue, SameOnTable, base_of, kept_map, limits_of, state_of}
 use Rattle.store_model.specs.Keeps.{kept_now, now_map}
-use Rattle.store_model.specs.States.{Limits, Served, State, Step, facts_of, refusal}
+use Rattle.store_model.specs.States.{Limits, State, Step, facts_of, refusal}
 use Rattle.store_model.specs.Stores.{IsStore}
 use Rattle.store_model.proofs.OverLaws.{head_is, opens_again}
 use Rattle.store_model.proofs.VersionLaws.{valid_as}
@@ -96,11 +96,10 @@ module _ {classes : ℕ} (s : StoreValue) (h : IsStore classes s) where
 
     -- the last checkpoint beside the data part of an image that opens to it
     pub kept_opens : (before image : List ℕ) → SameOnTable base s.kept file before
-        → KeepsTable over.table.chosen file image → SameFrom base before image
+        → choice.table_of image ≡ Ok over.table → SameFrom base before image
         → OpensBy classes SIZE_MAX over.table image (kept_map s file) s.kept_book
-    kept_opens before image alike keeps same = old_image_opens classes SIZE_MAX over.table file before image
-        (kept_map s file) s.kept_book over.checkpoint.opens.read
-        (opens_again s h file over before alike) keeps
+    kept_opens before image alike read same = old_image_opens classes SIZE_MAX over.table before image
+        (kept_map s file) s.kept_book read (opens_again s h file over before alike)
         (subst (λ (p : ℕ). SameFrom p before image) (sym (head_is s h file over)) same)
 
     -- the table of now beside the content's data part
@@ -109,8 +108,8 @@ module _ {classes : ℕ} (s : StoreValue) (h : IsStore classes s) where
         (saved : IsSaved (table_now s).chosen records image) (same : SameFrom base file image) where
       pub now_opens : OpensBy classes SIZE_MAX (table_now s) image (now_map s file) s.book
       now_opens = subst (λ (b : Book). OpensBy classes SIZE_MAX (table_now s) image (now_map s file) b)
-          (sym book_is) (new_image_opens classes SIZE_MAX (table_now s) records file image
-          same_table valid_now saved same)
+          (sym book_is) (new_image_opens classes SIZE_MAX (table_now s) file image valid_now
+          (saved.table ∙ ap (λ t. Ok t) same_table) same)
 
       map_kept : now_map s image ≡ now_map s file
       map_kept = map_from base (records_of s.now) file image same

@@ -3,6 +3,7 @@ use Rattle.std.specs.Prelude.{◌≡◌, ℕ, ◌+◌, ◌^◌, ◌<◌, ◌≤�
 use Rattle.std.proofs.Common.{arith, sym, ◌∙◌, ap, subst}
 use Rattle.disk_face.specs.States as disk
 use Rattle.slot_codec.specs.Names.{IsName}
+use Rattle.logged_pair.specs.Slots.{used_in}
 use Rattle.map_model.specs.Requests.{Change, changed}
 use Rattle.segment_layout.specs.Books.{charge_all, item_of, some_size, volumes, volumes_of_sizes}
 use Rattle.segment_layout.proofs.ShapeLaws.{caps-settled_above}
@@ -38,11 +39,12 @@ pub record IsFlown {C : ℕ} (s : Inside C) (c : Change) (hands1 : Hands C) (p :
   pub begun : IsBegun C (parts_of s.hands) c (parts_of hands1) p place
   pub name : IsName c.name
   pub object : bytes_of c ≡ bytes
-  pub fresh : s.hands.slots.sequence < 2 ^ 61
+  pub fresh : (used_in s.hands.slots).sequence < 2 ^ 61
   pub over : IsTrue a.tells → IsOver C (kept_of s) a.file
   pub left : (x : HandsValue) (e : Change) (g : BeforeChange)
       → CanMakeFlush C x e g (parts_of hands1) (lift_start p place) bytes a
-      → IsTrue a.tells → LeavesOldOrNew (flight_of C x e p.numbers.reach g) (hands2.slots.sequence + 1) a d
+      → IsTrue a.tells → LeavesOldOrNew (flight_of C x e p.numbers.reach g)
+      ((used_in hands2.slots).sequence + 1) a d
   pub made : HasMadeFlush p.numbers.boundary p.items a d (parts_of hands1) (parts_of hands2)
 
 -- what a change charges, by the size of its object

@@ -97,6 +97,7 @@ module _ {classes : ℕ} {x0 : HandsValue} {c : Change} {g : BeforeChange} {x : 
   -- no more names are live than a table of the version has records
   fits : FitsVersion x
   fits = record {
+    plain = ap (λ (y : HandsValue). y.has_logs) can.begun.rest ∙ can.may.plain;
     known = subst (λ v. IsTrue (is_version v)) (sym same_version) can.may.version;
     few = subst (λ n. fin.len x.table.now ≤ n)
         (λ i. cap ((sym same_in_use) i).block.names ((sym same_version) i))
@@ -338,6 +339,7 @@ flown_then {b} {items} {first} {mid} {now} {x} {x2} kept faults few r saves = re
     keys = r.keeps.keys;
     digests = r.keeps.digests;
     block = r.keeps.block;
+    same_form = r.keeps.same_form;
     version = r.keeps.version;
     divisor = r.keeps.divisor;
     room = r.keeps.room;

@@ -9,6 +9,7 @@ use Rattle.slot_codec.specs.Readable.{IsSuperBlock}
 use Rattle.slot_codec.specs.Choice.{Digests}
 use Rattle.slot_codec.specs.Reading.{is_version}
 use Rattle.slot_codec.specs.Spelling.{cap, head_len}
+use Rattle.logged_pair.specs.Slots.{has_logs, used_in}
 use Rattle.segment_layout.specs.Books.{book_end, version_of, with_digests}
 use Rattle.segment_layout.specs.Bounds.{Tight}
 use Rattle.segment_layout.specs.Layouts.{caps_of, divisor_of, grid_of}
@@ -55,33 +56,35 @@ tight_kept {classes} s file h over =
 pub record IsNew {C : ℕ} (s : Inside C) : Type 0 where
   pub few : C ≤ 32
   pub wide : SIZE_MAX < 2 ^ C
-  pub block : IsSuperBlock s.hands.slots.block
+  pub block : IsSuperBlock (used_in s.hands.slots).block
   pub kept : s.hands.table.now ≡ s.hands.table.kept
-  pub room : s.hands.table.names ≡ s.hands.slots.block.names
+  pub room : s.hands.table.names ≡ (used_in s.hands.slots).block.names
   pub digests : digests_seen s.hands.version s.hands.table.digests
       ≡ digests_seen s.hands.version s.hands.table.kept_digests
-  pub cap : s.hands.table.cap ≡ cap s.hands.slots.block.names s.hands.version
+  pub cap : s.hands.table.cap ≡ cap (used_in s.hands.slots).block.names s.hands.version
   pub few_names : fin.len s.hands.table.now ≤ s.hands.table.cap
-  pub divisor : divisor_of s.hands.layout ≡ s.hands.slots.block.k
-  pub kept_divisor : divisor_of s.kept_layout ≡ s.hands.slots.block.k
+  pub divisor : divisor_of s.hands.layout ≡ (used_in s.hands.slots).block.k
+  pub kept_divisor : divisor_of s.kept_layout ≡ (used_in s.hands.slots).block.k
   pub kept_caps : caps_of s.kept_layout ≡ caps_of s.hands.layout
   pub kept_grid : grid_of s.kept_layout ≡ grid_of s.hands.layout
   pub caps_full : IsRow C (caps_of s.hands.layout)
   pub grid_full : IsGrid C (grid_of s.hands.layout)
-  pub valid : IsValid (settled_table C SIZE_MAX s.hands.slots.block.k (caps_of s.hands.layout)
+  pub valid : IsValid (settled_table C SIZE_MAX (used_in s.hands.slots).block.k (caps_of s.hands.layout)
       (grid_of s.hands.layout) s.hands.table.now)
   pub table : IsTable s.hands.table
   pub spans : s.hands.guard.spans ≡ []
-  pub guard_room : s.hands.guard.room ≡ s.hands.slots.block.names
+  pub guard_room : s.hands.guard.room ≡ (used_in s.hands.slots).block.names
   pub moved : cells_of s.hands.ledger.moved ≡ zero_row
   pub asked : cells_of s.hands.ledger.asked ≡ zero_row
+  pub plain : has_logs s.hands.slots ≡ false
   pub version : IsTrue (is_version s.hands.version)
-  pub base : s.hands.base ≡ head_len s.hands.slots.block.names
+  pub base : s.hands.base ≡ head_len (used_in s.hands.slots).block.names
   pub buf : vec_len s.hands.buf ≡ 65536
   pub unbroken : s.broken ≡ false
 
 module _ {C : ℕ} (s : Inside C) (n : IsNew s) where
-  laid : IsLaidOut C SIZE_MAX s.hands.slots.block.k (caps_of s.hands.layout) (grid_of s.hands.layout)
+  laid : IsLaidOut C SIZE_MAX (used_in s.hands.slots).block.k (caps_of s.hands.layout)
+      (grid_of s.hands.layout)
       s.hands.table.now
   laid = record {
     few = n.few;
@@ -93,20 +96,21 @@ module _ {C : ℕ} (s : Inside C) (n : IsNew s) where
   }
 
   few_seen : (digests : Digests) (grid : List (List ℕ)) (spots : Spots)
-      → fin.len s.hands.table.now ≤ cap s.hands.slots.block.names (version_of
-      (digested_book C s.hands.slots.block.k (caps_of s.hands.layout) grid spots
+      → fin.len s.hands.table.now ≤ cap (used_in s.hands.slots).block.names (version_of
+      (digested_book C (used_in s.hands.slots).block.k (caps_of s.hands.layout) grid spots
       (digests_seen s.hands.version digests)))
   few_seen digests grid spots = omega (
     arith,
     n.few_names,
     n.cap,
-    ap (cap s.hands.slots.block.names) (version_seen s.hands.version digests
-        (shown_book C SIZE_MAX s.hands.slots.block.k (caps_of s.hands.layout) grid spots) n.version),
+    ap (cap (used_in s.hands.slots).block.names) (version_seen s.hands.version digests
+        (shown_book C SIZE_MAX (used_in s.hands.slots).block.k (caps_of s.hands.layout) grid spots)
+        n.version),
   )
 
   new_store : IsStore C (kept_of s)
   new_store =
-      let k = s.hands.slots.block.k in
+      let k = (used_in s.hands.slots).block.k in
       record {
         block = n.block;
         now = laid;
@@ -131,6 +135,7 @@ module _ {C : ℕ} (s : Inside C) (n : IsNew s) where
   new_whole = record {
     classes = n.few;
     wide = n.wide;
+    plain = n.plain;
     version = n.version;
     base = n.base;
     few = n.block.names_high;
@@ -147,15 +152,15 @@ module _ {C : ℕ} (s : Inside C) (n : IsNew s) where
         (subst (λ x. IsFreed [] s.hands.table.now x) n.kept (freed_nothing s.hands.table.now));
   }
 
-  pub new_view : kept_of s ≡ opened_store C s.hands.slots s.hands.table.now
+  pub new_view : kept_of s ≡ opened_store C (used_in s.hands.slots) s.hands.table.now
       (digests_seen s.hands.version s.hands.table.digests) (caps_of s.hands.layout) (grid_of s.hands.layout)
   new_view =
-      let k = s.hands.slots.block.k in
+      let k = (used_in s.hands.slots).block.k in
       let digests = digests_seen s.hands.version s.hands.table.digests in
       let shown = book_shown C SIZE_MAX k (caps_of s.hands.layout) (grid_of s.hands.layout) s.hands.table.now
       laid in
       λ i. record {
-        in_use = s.hands.slots;
+        in_use = (used_in s.hands.slots);
         now = s.hands.table.now;
         kept = sym n.kept i;
         book = with_digests digests (sym shown i);

@@ -17,6 +17,7 @@ use Rattle.slot_codec.specs.Reading.{is_version}
 use Rattle.slot_codec.specs.declared.codec.Kind.TheVariants as kind
 use Rattle.slot_codec.specs.declared.codec.SuperBlock.{SuperBlock}
 use Rattle.slot_pair.specs.declared.find.SlotFault.TheVariants as slot
+use Rattle.logged_pair.specs.Slots.{used_in}
 use Rattle.segment_layout.specs.Books.{Book, volumes, volumes_of_sizes, with_digests}
 use Rattle.segment_layout.specs.Layouts.{caps_of, grid_of}
 use Rattle.segment_layout.proofs.ShapeLaws.{caps-settled_above}
@@ -55,12 +56,12 @@ module _ {C : ℕ} (x : Loaded C) (loads : KeepsLoaded x) (moving : x.header.kin
     (packs : PacksAgain x p) (first last : disk.State)
     (from : IsTrue first.tells → IsLoadedFrom first.file x)
     (hands : Hands C) (left : (f : FlushFrame) → CanResume C f y p first → IsTrue first.tells
-    → LeavesOldOrNew f (hands.slots.sequence + 1) first last)
+    → LeavesOldOrNew f ((used_in hands.slots).sequence + 1) first last)
     (made : HasRun p.numbers.boundary p.items first last y (parts_of hands))
-    (few_saves : hands.slots.sequence + 1 < y.in_use.sequence + 2 ^ 18)
-    (one_a_move : hands.slots.sequence ≤ y.in_use.sequence + to_pack p + length p.items + 1)
+    (few_saves : (used_in hands.slots).sequence + 1 < y.in_use.sequence + 2 ^ 18)
+    (one_a_move : (used_in hands.slots).sequence ≤ y.in_use.sequence + to_pack p + length p.items + 1)
   where
-    few_most : hands.slots.sequence + 1 ≤ x.header.sequence + (2 ^ 18 - 1)
+    few_most : (used_in hands.slots).sequence + 1 ≤ x.header.sequence + (2 ^ 18 - 1)
     few_most = omega (
       arith,
       few_saves,
@@ -125,7 +126,7 @@ module _ {C : ℕ} (x : Loaded C) (loads : KeepsLoaded x) (moving : x.header.kin
             | inr high ↦ omega (arith, made.few c, zero_before c, totals c (omega (arith, high)))
           ]
 
-      saves_are : hands.slots.sequence - x.header.sequence ≤ 2 * x.header.count + 1
+      saves_are : (used_in hands.slots).sequence - x.header.sequence ≤ 2 * x.header.count + 1
       saves_are = omega (
         arith,
         one_a_move,
@@ -139,23 +140,24 @@ module _ {C : ℕ} (x : Loaded C) (loads : KeepsLoaded x) (moving : x.header.kin
 
       calls_are : (more saves : ℕ) → CallsSoFar first.turn last.turn y.moved
           (cells_of hands.ledger.moved) more
-          (hands.slots.sequence - y.in_use.sequence + saves) (fin.len y.table.now)
+          ((used_in hands.slots).sequence - y.in_use.sequence + saves) (fin.len y.table.now)
           → CallsSoFar first.turn last.turn zero_row (cells_of hands.ledger.moved) more
-          (hands.slots.sequence - x.header.sequence + saves) x.header.count
+          ((used_in hands.slots).sequence - x.header.sequence + saves) x.header.count
       calls_are more saves calls = subst (λ z. CallsSoFar first.turn last.turn zero_row
-          (cells_of hands.ledger.moved) more (hands.slots.sequence - x.header.sequence + saves) z)
+          (cells_of hands.ledger.moved) more ((used_in hands.slots).sequence - x.header.sequence + saves) z)
           (ap (λ (e : Extents). fin.len e.now) starts.table ∙ loads.count)
           (subst (λ z. CallsSoFar first.turn last.turn zero_row (cells_of hands.ledger.moved) more
-          (hands.slots.sequence - z + saves) (fin.len y.table.now))
+          ((used_in hands.slots).sequence - z + saves) (fin.len y.table.now))
           (ap (λ (u : choice.InUse). u.sequence) starts.in_use ∙ loads.sequence)
           (subst (λ z. CallsSoFar first.turn last.turn z (cells_of hands.ledger.moved) more
-          (hands.slots.sequence - y.in_use.sequence + saves) (fin.len y.table.now)) starts.moved calls))
+          ((used_in hands.slots).sequence - y.in_use.sequence + saves) (fin.len y.table.now)) starts.moved
+          calls))
 
       again_most : MostCallsOf x.header.kind (table_loaded x) f.new_map first.turn last.turn
       again_most = subst (λ z. MostCallsOf z (table_loaded x) f.new_map first.turn last.turn) (sym moving)
           (record {
             moved = cells_of hands.ledger.moved;
-            saves = hands.slots.sequence - x.header.sequence;
+            saves = (used_in hands.slots).sequence - x.header.sequence;
             few = moved_few;
             few_saves = saves_are;
             calls = calls_are (piece_calls + 2) 1 made.most;
@@ -178,11 +180,11 @@ module _ {C : ℕ} (x : Loaded C) (loads : KeepsLoaded x) (moving : x.header.kin
       found = λ told t m b o.
           found_by (found_one C (table_loaded x) t first.file _ m _ b (from told).opens o) (record {
             content = content_again x loads moving few wide y starts p packs first last
-                (hands.slots.sequence + 1) few_most
+                ((used_in hands.slots).sequence + 1) few_most
                 left told
                 (from told);
             left = left_again x loads moving few wide y starts p packs first last
-                (hands.slots.sequence + 1) few_most
+                ((used_in hands.slots).sequence + 1) few_most
                 left told (from told);
             rests = λ rests. tt;
             calls = tt;
@@ -199,7 +201,7 @@ module _ {C : ℕ} (x : Loaded C) (loads : KeepsLoaded x) (moving : x.header.kin
     -- ---- it was done
 
     module _ (ends : (f : FlushFrame) → CanResume C f y p first → FlushEnds C f (parts_of hands) last)
-        (later : y.in_use.sequence + 1 ≤ hands.slots.sequence) where
+        (later : y.in_use.sequence + 1 ≤ (used_in hands.slots).sequence) where
       ends_for : (f : FlushFrame) → CanResume C f y p first
           → FlushEnds C (record f { classes = C; size_max = SIZE_MAX }) (parts_of hands) last
       ends_for f can = subst (λ z. FlushEnds C z (parts_of hands) last)
@@ -211,13 +213,13 @@ module _ {C : ℕ} (x : Loaded C) (loads : KeepsLoaded x) (moving : x.header.kin
       any_ends : FlushEnds C (record any.0 { classes = C; size_max = SIZE_MAX }) (parts_of hands) last
       any_ends = ends_for any.0 any.1
 
-      block_is : hands.slots.block ≡ x.slots.block
+      block_is : (used_in hands.slots).block ≡ x.slots.block
       block_is = made.keeps.block ∙ ap (λ (u : choice.InUse). u.block) starts.in_use
 
-      block_found : hands.slots.block ≡ x.block
+      block_found : (used_in hands.slots).block ≡ x.block
       block_found = block_is ∙ loads.same_block
 
-      names_now : hands.table.names ≡ hands.slots.block.names
+      names_now : hands.table.names ≡ (used_in hands.slots).block.names
       names_now = made.keeps.names ∙ ap (λ (e : Extents). e.names) starts.table ∙ loads.room
           ∙ ap (λ (z : SuperBlock). z.names) (sym block_found)
 
@@ -227,7 +229,7 @@ module _ {C : ℕ} (x : Loaded C) (loads : KeepsLoaded x) (moving : x.header.kin
       same_cap : hands.table.cap ≡ x.table.cap
       same_cap = made.keeps.cap ∙ ap (λ (e : Extents). e.cap) starts.table
 
-      cap_now : hands.table.cap ≡ cap hands.slots.block.names hands.version
+      cap_now : hands.table.cap ≡ cap (used_in hands.slots).block.names hands.version
       cap_now = same_cap ∙ loads.cap ∙ (λ i. cap ((sym block_found) i).names ((sym same_version) i))
 
       few_now : fin.len hands.table.now ≤ hands.table.cap
@@ -239,11 +241,12 @@ module _ {C : ℕ} (x : Loaded C) (loads : KeepsLoaded x) (moving : x.header.kin
         ap (λ (e : Extents). fin.len e.now) starts.table,
       )
 
-      block_now : IsSuperBlock hands.slots.block
+      block_now : IsSuperBlock (used_in hands.slots).block
       block_now = subst IsSuperBlock (sym block_found) loads.ranges
 
       fits : FitsVersion (parts_of hands)
       fits = record {
+        plain = made.keeps.same_form ∙ starts.plain;
         known = subst (λ v. IsTrue (is_version v)) (sym same_version) loads.version;
         few = omega (arith, few_now, cap_now);
       }
@@ -264,6 +267,7 @@ module _ {C : ℕ} (x : Loaded C) (loads : KeepsLoaded x) (moving : x.header.kin
         table = any_ends.table;
         spans = any_ends.empty;
         guard_room = made.keeps.room ∙ starts.room ∙ ap (λ (z : SuperBlock). z.names) (sym block_found);
+        plain = fits.plain;
         version = fits.known;
         base = made.keeps.base ∙ starts.base ∙ ap (λ (z : SuperBlock). head_len z.names) (sym block_found);
         buffer = made.keeps.buffer ∙ starts.buffer;
@@ -272,13 +276,15 @@ module _ {C : ℕ} (x : Loaded C) (loads : KeepsLoaded x) (moving : x.header.kin
       -- ---- the store
 
       abbrev s : StoreValue
-      s = opened_store C hands.slots hands.table.now (saved_digests (parts_of hands)) (caps_of hands.layout)
+      s = opened_store C (used_in hands.slots) hands.table.now (saved_digests (parts_of hands))
+          (caps_of hands.layout)
           (grid_of hands.layout)
 
-      is_flushed : IsFlushed C hands.slots hands.table.now (saved_digests (parts_of hands))
+      is_flushed : IsFlushed C (used_in hands.slots) hands.table.now (saved_digests (parts_of hands))
           (caps_of hands.layout) (grid_of hands.layout) s
       is_flushed =
-          let shown = book_shown C SIZE_MAX hands.slots.block.k (caps_of hands.layout) (grid_of hands.layout)
+          let shown = book_shown C SIZE_MAX (used_in hands.slots).block.k (caps_of hands.layout)
+          (grid_of hands.layout)
           hands.table.now any_ends.laid in
           let seen = ap (λ (b : Book). with_digests (saved_digests (parts_of hands)) b) shown in
           record { in_use = refl; same_now = refl; kept = refl; book = seen; kept_book = seen }
@@ -304,7 +310,7 @@ module _ {C : ℕ} (x : Loaded C) (loads : KeepsLoaded x) (moving : x.header.kin
         still_told : IsTrue last.tells
         still_told = made.keeps.disk.stays.told ∙ told
 
-        base_now : head_len hands.slots.block.names ≡ head_len x.slots.block.names
+        base_now : head_len (used_in hands.slots).block.names ≡ head_len x.slots.block.names
         base_now = ap (λ (z : SuperBlock). head_len z.names) block_is
 
         again_opened : IsOpened C first.file last.file s
@@ -316,18 +322,19 @@ module _ {C : ℕ} (x : Loaded C) (loads : KeepsLoaded x) (moving : x.header.kin
           block = block_found;
           state = ended_state hands here last told_ends names_now block_now fits s is_flushed base_now
               still_told;
-          continues = subst (λ z. ContinuesFrom z x.header.sequence hands.slots.sequence) (sym moving) (
-            omega (arith, later, ap (λ (u : choice.InUse). u.sequence) starts.in_use, loads.sequence),
-            omega (arith, few_saves, ap (λ (u : choice.InUse). u.sequence) starts.in_use, loads.sequence),
-          );
+          continues = subst (λ z. ContinuesFrom z x.header.sequence (used_in hands.slots).sequence)
+              (sym moving) (
+                omega (arith, later, ap (λ (u : choice.InUse). u.sequence) starts.in_use, loads.sequence),
+                omega (arith, few_saves, ap (λ (u : choice.InUse). u.sequence) starts.in_use, loads.sequence),
+              );
         }
 
         -- ---- the calls
 
         module _ (calls : CallsSoFar first.turn last.turn y.moved (cells_of hands.ledger.moved) 2
-            (hands.slots.sequence - y.in_use.sequence) (fin.len y.table.now)) where
+            ((used_in hands.slots).sequence - y.in_use.sequence) (fin.len y.table.now)) where
           moves_on : MovesOn here.new_map x.header.count first.turn last.turn
-              (hands.slots.sequence - x.header.sequence)
+              ((used_in hands.slots).sequence - x.header.sequence)
           moves_on = record {
             moved = cells_of hands.ledger.moved;
             few = moved_few told;
@@ -341,11 +348,11 @@ module _ {C : ℕ} (x : Loaded C) (loads : KeepsLoaded x) (moving : x.header.kin
           again_found : OpensFound C (table_loaded x) here.new_map here.new_book first last (Ok s)
           again_found = record {
             content = content_again x loads moving few wide y starts p packs first last
-                (hands.slots.sequence + 1) few_most
+                ((used_in hands.slots).sequence + 1) few_most
                 left told
                 (from told);
             left = left_again x loads moving few wide y starts p packs first last
-                (hands.slots.sequence + 1) few_most
+                ((used_in hands.slots).sequence + 1) few_most
                 left told (from told);
             rests = λ rests. ended_rests hands here last told_ends names_now block_now fits s is_flushed
                 base_now still_told;
@@ -359,7 +366,8 @@ module _ {C : ℕ} (x : Loaded C) (loads : KeepsLoaded x) (moving : x.header.kin
 
       pub again_done : {T E : Type 0} (z : T) →
           CallsSoFar first.turn last.turn y.moved
-          (cells_of hands.ledger.moved) 2 (hands.slots.sequence - y.in_use.sequence) (fin.len y.table.now)
+          (cells_of hands.ledger.moved) 2 ((used_in hands.slots).sequence - y.in_use.sequence)
+          (fin.len y.table.now)
           → HasCause {E = E} first.faults last.faults (Ok z) → IsOpening C first last (Ok s)
       again_done z calls cause = record {
         opened = λ told. again_opened told;

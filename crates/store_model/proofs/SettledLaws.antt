@@ -10,6 +10,7 @@ use Rattle.slot_pair.specs.Saves.{save_calls}
 use Rattle.slot_codec.specs.Reading.{is_version}
 use Rattle.slot_codec.specs.Spelling.{cap, head_len}
 use Rattle.slot_codec.specs.declared.codec.SuperBlock.{SuperBlock}
+use Rattle.logged_pair.specs.Slots.{used_in}
 use Rattle.segment_layout.specs.Layouts.{caps_of, grid_of}
 use Rattle.extent_table.specs.Extents.{Spots, digests_seen}
 use Rattle.placement_model.specs.Held.{IsFreed}
@@ -63,22 +64,24 @@ module _ {C : ℕ} (began : Began C) (s : Inside C) (v : Phase C) (g : IsGoing b
     e : FlushEnds C (frame start.0) (parts_of hands2) d
     e = ends (frame start.0) start.1
 
-    names_now : hands2.table.names ≡ hands2.slots.block.names
+    names_now : hands2.table.names ≡ (used_in hands2.slots).block.names
     names_now = ended.keeps.names ∙ g.parts.room ∙ ap (λ (b : SuperBlock). b.names) (sym ended.keeps.block)
 
-    block_now : IsSuperBlock hands2.slots.block
+    block_now : IsSuperBlock (used_in hands2.slots).block
     block_now = subst IsSuperBlock (sym ended.keeps.block) g.goes.goes.hands.block
 
     fits : FitsVersion (parts_of hands2)
     fits = record {
+      plain = ended.keeps.same_form ∙ g.goes.goes.version.plain;
       known = subst (λ n. IsTrue (is_version n)) (sym ended.keeps.version) g.goes.goes.version.known;
-      few = subst (λ (m : Spots). fin.len m ≤ cap hands2.slots.block.names hands2.version) (sym ended.spots)
+      few = subst (λ (m : Spots). fin.len m ≤ cap (used_in hands2.slots).block.names hands2.version)
+          (sym ended.spots)
           (subst (λ n. fin.len s.hands.table.now ≤ n)
           (λ i. cap ((sym ended.keeps.block) i).names ((sym ended.keeps.version) i))
           g.goes.goes.version.few);
     }
 
-    view : IsFlushed C hands2.slots hands2.table.now (saved_digests (parts_of hands2))
+    view : IsFlushed C (used_in hands2.slots) hands2.table.now (saved_digests (parts_of hands2))
         (caps_of hands2.layout) (grid_of hands2.layout) (kept_of settled)
     view = flushed_view s hands2 e.kept e.kept_digests
 
@@ -92,6 +95,7 @@ module _ {C : ℕ} (began : Began C) (s : Inside C) (v : Phase C) (g : IsGoing b
         record {
           classes = p.classes;
           wide = p.wide;
+          plain = p.plain;
           version = p.version;
           base = p.base;
           few = p.few;
@@ -117,7 +121,7 @@ module _ {C : ℕ} (began : Began C) (s : Inside C) (v : Phase C) (g : IsGoing b
         now = ended.spots i;
         kept = (e.kept ∙ ended.spots) i;
         book = e.book i;
-        kept_book = ((λ j. digested_book C hands2.slots.block.k (caps_of hands2.layout)
+        kept_book = ((λ j. digested_book C (used_in hands2.slots).block.k (caps_of hands2.layout)
             (grid_of hands2.layout) (e.kept j) (digests_seen hands2.version (e.kept_digests j)))
             ∙ e.book) i;
         moved = ended.row i;
@@ -125,20 +129,20 @@ module _ {C : ℕ} (began : Began C) (s : Inside C) (v : Phase C) (g : IsGoing b
       };
     }
 
-    next_saves : hands2.slots.sequence ≤ s.hands.slots.sequence + 1
+    next_saves : (used_in hands2.slots).sequence ≤ (used_in s.hands.slots).sequence + 1
     next_saves = omega (arith, ap (λ (u : InUse). u.sequence) ended.pair)
 
     pub settled_sums : SumsOfStep seen_now (kept_of settled) hand a d (Ok progress.Settled)
     settled_sums =
         let up = sums_end (sums_anew g.sums a) ended in
         record {
-          few_saves = saves_since began s v g hands2.slots.sequence next_saves;
+          few_saves = saves_since began s v g (used_in hands2.slots).sequence next_saves;
           lower = lower_since began s v g up;
           few = few_since began s v g up;
           calls = (sums_end (sums_begin v x1 a) ended).calls;
         }
 
-    base_now : head_len hands2.slots.block.names ≡ head_len s.hands.slots.block.names
+    base_now : head_len (used_in hands2.slots).block.names ≡ head_len (used_in s.hands.slots).block.names
     base_now = ap (λ (b : SuperBlock). head_len b.names) ended.keeps.block
 
     pub settled_over : (IsTrue a.tells → (o : Origin) × HalfAgrees C seen_now hand o a)
@@ -152,11 +156,12 @@ module _ {C : ℕ} (began : Began C) (s : Inside C) (v : Phase C) (g : IsGoing b
     }
 
     pub settled_steps : (o : Origin) → HalfAgrees C seen_now hand o a → IsTrue a.tells
-        → LeavesOldOrNew (frame o) (hands2.slots.sequence + 1) a d
+        → LeavesOldOrNew (frame o) ((used_in hands2.slots).sequence + 1) a d
         → StepsHalf C o seen_now (kept_of settled) a d (Ok progress.Settled)
     settled_steps o half told left =
-        let few = saves_since began s v g hands2.slots.sequence next_saves in
-        let all = half_left seen_now hand o half.loose (hands2.slots.sequence + 1) (omega (arith, few))
+        let few = saves_since began s v g (used_in hands2.slots).sequence next_saves in
+        let all = half_left seen_now hand o half.loose ((used_in hands2.slots).sequence + 1)
+        (omega (arith, few))
         left in
         let now = subst IsTrue (sym ended.keeps.disk.stays.told) told in
         let end = ends (frame o) (can_half began s v g o (λ t. half)) in
@@ -195,17 +200,18 @@ module _ {C : ℕ} (began : Began C) (s : Inside C) (v : Phase C) (g : IsGoing b
     failed_sums fault =
         let up = sums_stop (sums_anew g.sums a) stopped in
         record {
-          few_saves = saves_since began s v g hands2.slots.sequence stopped.one;
+          few_saves = saves_since began s v g (used_in hands2.slots).sequence stopped.one;
           lower = lower_since began s v g up;
           few = few_since began s v g up;
           calls = (sums_stop (sums_begin v x1 a) stopped).calls;
         }
 
     pub failed_steps : (fault : Refusal) (o : Origin) → HalfAgrees C seen_now hand o a
-        → LeavesOldOrNew (frame o) (hands2.slots.sequence + 1) a d
+        → LeavesOldOrNew (frame o) ((used_in hands2.slots).sequence + 1) a d
         → StepsHalf C o seen_now (kept_of failed) a d (Err fault)
     failed_steps fault o half left =
-        let few = saves_since began s v g hands2.slots.sequence stopped.one in
-        let all = half_left seen_now hand o half.loose (hands2.slots.sequence + 1) (omega (arith, few))
+        let few = saves_since began s v g (used_in hands2.slots).sequence stopped.one in
+        let all = half_left seen_now hand o half.loose ((used_in hands2.slots).sequence + 1)
+        (omega (arith, few))
         left in
         record { hand = hand; is = refl; left = all.0; content = all.1; on = tt }

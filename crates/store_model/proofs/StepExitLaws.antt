@@ -1,6 +1,7 @@
 -- What a step of a flush in hand answers, as contracts see the store before and after it.
 use Rattle.std.specs.Prelude.{◌≡◌, ℕ, ◌+◌, ◌≤◌, true, Option, Some, None, Result, Ok, Err, IsTrue, refl}
 use Rattle.std.proofs.Common.{arith, sym, subst}
+use Rattle.logged_pair.specs.Slots.{used_in}
 use Rattle.disk_face.specs.States as disk
 use Rattle.disk_face.specs.Writes.{KeepsDisk}
 use Rattle.flush_run.specs.declared.hands.Hands.{Hands}
@@ -56,12 +57,12 @@ module _ {C : ℕ} {began : Began C} {s : Inside C} {v : Phase C} {t : StoreValu
 
     module _ (hands2 : Hands C) (d : disk.State)
         (left : (f : FlushFrame) → CanAdvance f v x1 a → IsTrue a.tells
-        → LeavesOldOrNew f (hands2.slots.sequence + 1) a d) where
+        → LeavesOldOrNew f ((used_in hands2.slots).sequence + 1) a d) where
       abbrev x2 : HandsValue
       x2 = parts_of hands2
 
       left_at : (o : Origin) → HalfAgrees C (seen (Some v) began s) (hand_of began s v) o a → IsTrue a.tells
-          → LeavesOldOrNew (frame o) (hands2.slots.sequence + 1) a d
+          → LeavesOldOrNew (frame o) ((used_in hands2.slots).sequence + 1) a d
       left_at o had told = left (frame o) (can_half began s v x.going o (λ u. had)) told
 
       -- the disk failed

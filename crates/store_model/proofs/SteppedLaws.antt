@@ -12,6 +12,7 @@ use Rattle.size_class.proofs.ClassLaws.{class_below}
 use Rattle.slot_codec.specs.Reading.{is_version}
 use Rattle.slot_codec.specs.Spelling.{cap, head_len}
 use Rattle.slot_codec.specs.declared.codec.SuperBlock.{SuperBlock}
+use Rattle.logged_pair.specs.Slots.{used_in}
 use Rattle.map_model.specs.Maps.{Map}
 use Rattle.segment_layout.specs.Books.{Book, with_digests, volumes, volumes_of_sizes}
 use Rattle.segment_layout.specs.Bounds.{Loose}
@@ -20,18 +21,17 @@ use Rattle.segment_layout.specs.declared.layout.Layout.{Layout}
 use Rattle.segment_layout.proofs.ShapeLaws.{caps-settled_above}
 use Rattle.table_rules.specs.Tables.{book_of, sizes}
 use Rattle.placement_model.specs.Laid.{laid}
-use Rattle.extent_table.specs.Extents.{Extents, records_of}
+use Rattle.extent_table.specs.Extents.{records_of}
 use Rattle.flush_model.specs.Plans.{class_total}
 use Rattle.flush_plan.specs.Shelves.{PlanFrame}
 use Rattle.flush_run.specs.declared.hands.Hands.{Hands}
 use Rattle.flush_run.specs.declared.phase.Phase.{Phase}
-use Rattle.flush_run.specs.declared.phase.Phase.TheVariants as phases
 use Rattle.flush_run.specs.Calls.{CallsSoFar, IsOpenRow}
 use Rattle.flush_run.specs.FlushFrames.{FlushFrame, LeavesOldOrNew, MidFlush}
 use Rattle.flush_run.specs.MadeMoves.{calls_of_save}
 use Rattle.flush_run.specs.Loops.{phase_header}
 use Rattle.flush_run.specs.Parts.{HandsValue, KeepsSettling, parts_of, saved_digests}
-use Rattle.flush_run.specs.Phases.{CanAdvance, GoesOn, KeepsIn, PaidIn, course_in, items_in, phase_in, steps_left}
+use Rattle.flush_run.specs.Phases.{CanAdvance, GoesOn, KeepsIn, PaidIn, course_in, items_in, phase_in}
 use Rattle.flush_run.specs.Steps.{HasMovedOne}
 use Rattle.flush_run.specs.Sums.{SumsUp}
 use Rattle.flush_run.proofs.HandLaws.{paid_more}
@@ -45,7 +45,7 @@ use Rattle.store_model.specs.declared.answers.Progress.TheVariants as progress
 use Rattle.store_model.specs.declared.hand.Began.{Began}
 use Rattle.store_model.specs.Facts.{bytes_left_of}
 use Rattle.store_model.specs.Steps.{MovesOne, StepsHalf, SumsOfStep}
-use Rattle.store_model.specs.Inside.{HoldsAt, Inside, IsGoing, IsWhole, hand_of, kept_of, seen, still_frame, untold}
+use Rattle.store_model.specs.Inside.{Inside, IsGoing, IsWhole, hand_of, kept_of, seen, still_frame, untold}
 use Rattle.store_model.specs.Connection.{FlushInHand, StoreValue}
 use Rattle.store_model.specs.Halves.{HalfAgrees, IsHalfway, Origin, frame_at}
 use Rattle.store_model.specs.Quiet.{added}
@@ -135,7 +135,7 @@ module _ {C : ℕ} (began : Began C) (s : Inside C) (v : Phase C) (g : IsGoing b
       let h = g.goes.goes.hands in
       let p = phase_in v s.hands.table in
       let live = volumes_of_sizes (sizes (records_of s.hands.table.now)) in
-      sym (new_cap (still_frame began s v) s.hands.slots s.hands.table (caps_of s.hands.layout)
+      sym (new_cap (still_frame began s v) (used_in s.hands.slots) s.hands.table (caps_of s.hands.layout)
       (grid_of s.hands.layout) s.hands.guard.spans p h c high)
       ∙ caps-settled_above p.numbers.boundary c (caps_of s.hands.layout) live h.caps_full.full
       (omega (arith, h.boundary, h.few)) high
@@ -162,18 +162,20 @@ module _ {C : ℕ} (began : Began C) (s : Inside C) (v : Phase C) (g : IsGoing b
         ]
 
   -- at most 2k saves come since it began, also where one more fails
-  pub saves_since : (n : ℕ) → n ≤ x1.in_use.sequence + 1 → n ≤ hand.began + 2 * s.hands.slots.block.k
+  pub saves_since : (n : ℕ) → n ≤ x1.in_use.sequence + 1 → n ≤ hand.began
+      + 2 * (used_in s.hands.slots).block.k
   saves_since n one = omega (arith, one, paid_more v x1 g.goes began.sequence g.paid)
 
   -- ---- the parts after it
 
   pub parts_after : {a d : disk.State} (hands2 : Hands C) (layout : Layout C)
       → KeepsSettling a d x1 (parts_of hands2) → caps_of layout ≡ caps_of hands2.layout
-      → divisor_of layout ≡ s.hands.slots.block.k
+      → divisor_of layout ≡ (used_in s.hands.slots).block.k
       → IsWhole (record s { hands = hands2; kept_layout = layout; broken = true })
   parts_after hands2 layout keeps caps divisor = record {
     classes = g.parts.classes;
     wide = g.parts.wide;
+    plain = keeps.same_form ∙ g.parts.plain;
     version = subst (λ n. IsTrue (is_version n)) (sym keeps.version) g.parts.version;
     base = keeps.base ∙ g.parts.base ∙ ap (λ (b : SuperBlock). head_len b.names) (sym keeps.block);
     few = omega (arith, g.parts.few, ap (λ (b : SuperBlock). b.names) keeps.block);
@@ -213,7 +215,8 @@ module _ {C : ℕ} (began : Began C) (s : Inside C) (v : Phase C) (g : IsGoing b
     some_on = on (frame start.0) start.1
 
     book_is : (hand_of fewer next v2).book_after ≡ hand.book_after
-    book_is = ap (λ (n : ℕ). with_digests (saved_digests x2) (book_of (laid C SIZE_MAX hands2.slots.block.k n
+    book_is = ap (λ (n : ℕ). with_digests (saved_digests x2) (book_of
+        (laid C SIZE_MAX (used_in hands2.slots).block.k n
         (phase_header (phase_in v2 hands2.table) (caps_of hands2.layout) (grid_of hands2.layout))
         hands2.table.now))) (ap (λ (c : PlanFrame). c.numbers.reach) same_course) ∙ some_on.goes.book
 
@@ -259,7 +262,7 @@ module _ {C : ℕ} (began : Began C) (s : Inside C) (v : Phase C) (g : IsGoing b
         arith,
         g.room,
         made.fewer,
-        saves_high made.move.saved hands2.slots s.hands.slots made.move.pair,
+        saves_high made.move.saved (used_in hands2.slots) (used_in s.hands.slots) made.move.pair,
       );
       paid = paid began.sequence g.paid;
       mark = record g.mark { turn = 0 };
@@ -282,8 +285,8 @@ module _ {C : ℕ} (began : Began C) (s : Inside C) (v : Phase C) (g : IsGoing b
         d)
         same_course (sums_still since) in
         record {
-          few_saves = saves_since hands2.slots.sequence
-              (saves_high made.move.saved hands2.slots s.hands.slots made.move.pair);
+          few_saves = saves_since (used_in hands2.slots).sequence
+              (saves_high made.move.saved (used_in hands2.slots) (used_in s.hands.slots) made.move.pair);
           lower = lower_since up;
           few = few_since up;
           calls = subst (λ n. CallsSoFar a.turn d.turn x1.moved x2.moved 0 n (fin.len s.hands.table.now))
@@ -337,7 +340,8 @@ module _ {C : ℕ} (began : Began C) (s : Inside C) (v : Phase C) (g : IsGoing b
     module _ (o : Origin) (half : HalfAgrees C seen_now hand o a) (told : IsTrue d.tells) where
       moved_half : (left : ℕ) → HalfAgrees C seen_next (record hand { left = left }) o d
       moved_half left = record {
-        flies = subst (λ f. MidFlush f hands2.slots hands2.table.now hands2.table.kept d.file d.may_leave)
+        flies = subst (λ f. MidFlush f (used_in hands2.slots) hands2.table.now hands2.table.kept d.file
+            d.may_leave)
             (λ i. record (frame o) { base = head_len (sym made.move.keeps.block i).names })
             ((on (frame o) (can_half o (λ t. half))).goes.flies told);
         loose = subst (λ (b : SuperBlock). Loose b.k hand.reach o.before o.after) (sym made.move.keeps.block)
@@ -356,12 +360,13 @@ module _ {C : ℕ} (began : Began C) (s : Inside C) (v : Phase C) (g : IsGoing b
     }
 
     pub moved_steps : (o : Origin) → HalfAgrees C seen_now hand o a → IsTrue a.tells
-        → LeavesOldOrNew (frame o) (hands2.slots.sequence + 1) a d
+        → LeavesOldOrNew (frame o) ((used_in hands2.slots).sequence + 1) a d
         → StepsHalf C o seen_now seen_next a d (Ok progress.Moved)
     moved_steps o half told left =
-        let few = saves_since hands2.slots.sequence
-        (saves_high made.move.saved hands2.slots s.hands.slots made.move.pair) in
-        let all = half_left seen_now hand o half.loose (hands2.slots.sequence + 1) (omega (arith, few))
+        let few = saves_since (used_in hands2.slots).sequence
+        (saves_high made.move.saved (used_in hands2.slots) (used_in s.hands.slots) made.move.pair) in
+        let all = half_left seen_now hand o half.loose ((used_in hands2.slots).sequence + 1)
+        (omega (arith, few))
         left in
         record {
           hand = hand;

@@ -15,7 +15,10 @@ use Rattle.slot_codec.specs.Reading.{is_version, all_in_range, worn_from}
 use Rattle.slot_codec.specs.Spelling.{cap as cap_of}
 use Rattle.slot_codec.specs.declared.codec.Header.{Header}
 use Rattle.slot_codec.specs.declared.codec.Record.{Record}
-use Rattle.slot_pair.specs.Saves.{CanSave, IsSaved, SaveLeaves, next_chosen, next_in_use, save_calls}
+use Rattle.slot_pair.specs.Saves.{CanSave, IsSaved, next_chosen, next_in_use, save_calls}
+use Rattle.logged_pair.specs.Slots.{has_logs, used_in}
+use Rattle.logged_pair.specs.declared.slots.Slots.{Slots}
+use Rattle.logged_pair.proofs.PlainSlots.{PlainSaveLeaves}
 use Rattle.segment_layout.specs.Books.{digests_of, version_of}
 use Rattle.segment_layout.specs.Layouts.{caps_of, grid_of}
 use Rattle.extent_table.specs.Extents.{Extents, IsTable, Spots, digests_seen, rolled}
@@ -96,15 +99,15 @@ module _ {C : ℕ} {s : Inside C} {t : StoreValue} {a : disk.State} (u : Upgrada
     told_first : IsTrue b.tells → IsTrue a.tells
     told_first told = subst IsTrue frame.stays.told told
 
-    over_mid : IsTrue b.tells → IsOver C (kept_of mid) b.file
+    pub over_mid : IsTrue b.tells → IsOver C (kept_of mid) b.file
     over_mid told = subst (λ (x : StoreValue). IsOver C x b.file) (sym mid_is)
         (subst (λ (f : List ℕ). IsOver C t f) (sym (frame.same_file (told_first told)))
         (u.over.over u.unbroken (told_first told)))
 
-    pub few_mid : fin.len table.now ≤ cap_of s.hands.slots.block.names 2
+    pub few_mid : fin.len table.now ≤ cap_of (used_in s.hands.slots).block.names 2
     few_mid = subst (λ (x : StoreValue). fin.len x.now ≤ cap_of x.in_use.block.names 2) (sym mid_is) u.few
 
-    pub fresh_mid : s.hands.slots.sequence < 2 ^ 61
+    pub fresh_mid : (used_in s.hands.slots).sequence < 2 ^ 61
     fresh_mid = subst (λ (x : StoreValue). x.in_use.sequence < 2 ^ 61) (sym mid_is) u.fresh
 
     -- a read failed
@@ -122,7 +125,7 @@ module _ {C : ℕ} {s : Inside C} {t : StoreValue} {a : disk.State} (u : Upgrada
 
     module _ (h : Header) (header : h ≡ in_version 2 (settled_header (caps_of s.hands.layout)
         (grid_of s.hands.layout))) where
-      pub upgrade_can_save : IsTrue (all_in_range h) → CanSave s.hands.slots h records
+      pub upgrade_can_save : IsTrue (all_in_range h) → CanSave (used_in s.hands.slots) h records
       upgrade_can_save ranges = record {
         fresh = omega (arith, fresh_mid);
         version = subst (λ v. IsTrue (is_version v)) (sym (ap (λ (h : Header). h.version) header)) refl;
@@ -133,15 +136,17 @@ module _ {C : ℕ} {s : Inside C} {t : StoreValue} {a : disk.State} (u : Upgrada
           rolled_count table.now table.digests,
           length-records_of table.now is_table.now_named,
           few_mid,
-          ap (λ (h : Header). cap_of s.hands.slots.block.names h.version) header,
+          ap (λ (h : Header). cap_of (used_in s.hands.slots).block.names h.version) header,
         );
       }
 
       module _ (result : Result (Unit {0}) Refusal) (read : false ≡ is_err result)
           (digests : IsTrue a.tells
           → OnOk result (table.digests ≡ digests_of (read_at s.hands.base a.file s.hands.table.now)))
-          (calm_unless : (result ≡ Err why.Disk → ⊥) → b.faults ≡ a.faults) {d : disk.State}
-          (leaves : IsTrue b.tells → SaveLeaves s.hands.slots h records b d) (keeps : KeepsDisk b d) where
+          (calm_unless : (result ≡ Err why.Disk → ⊥) → b.faults ≡ a.faults) {before : List Record}
+          {d : disk.State}
+          (leaves : IsTrue b.tells → PlainSaveLeaves (used_in s.hands.slots) h before records b d)
+          (keeps : KeepsDisk b d) where
         own : IsTrue a.tells → table.digests ≡ digests_now t a.file
         own told = if_read result read (digests told)
             ∙ (λ i. digests_of (read_at (parts.base i) a.file (parts.now i)))
@@ -150,7 +155,7 @@ module _ {C : ℕ} {s : Inside C} {t : StoreValue} {a : disk.State} (u : Upgrada
         calm = calm_unless (no_fault result why.Disk read)
 
         -- the save failed
-        pub upgrade_unsaved : (slots : choice.InUse) → slots ≡ s.hands.slots → (buf2 : Vec ℕ)
+        pub upgrade_unsaved : (slots : Slots) → slots ≡ s.hands.slots → (buf2 : Vec ℕ)
             → Calls {T = Done} {E = Refusal} (save_calls (length records)) b d (Err why.Disk)
             → Upgrades C t (kept_of (record mid {
               hands = record mid.hands { slots = slots; buf = buf2 };
@@ -159,10 +164,12 @@ module _ {C : ℕ} {s : Inside C} {t : StoreValue} {a : disk.State} (u : Upgrada
         upgrade_unsaved slots same buf2 calls = upgrade_failed t parts.store frame
             (u.over.over u.unbroken) table.digests own calm _ why.Disk
             ((λ i. record (kept_of mid) {
-              in_use = same i;
-              book = digested_book C (same i).block.k (caps_of s.hands.layout) (grid_of s.hands.layout)
+              in_use = used_in (same i);
+              book = digested_book C (used_in (same i)).block.k (caps_of s.hands.layout)
+                  (grid_of s.hands.layout)
                   table.now (digests_seen s.hands.version table.digests);
-              kept_book = digested_book C (same i).block.k (caps_of s.hands.layout) (grid_of s.kept_layout)
+              kept_book = digested_book C (used_in (same i)).block.k (caps_of s.hands.layout)
+                  (grid_of s.kept_layout)
                   table.kept (digests_seen s.hands.version table.kept_digests);
               is_broken = true;
             }) ∙ ap (λ (x : StoreValue). record x { is_broken = true }) mid_is)
@@ -171,8 +178,8 @@ module _ {C : ℕ} {s : Inside C} {t : StoreValue} {a : disk.State} (u : Upgrada
             (save_failed mid store is_table few_mid fresh_mid h header over_mid leaves keeps why.Disk calls))
 
         -- what stands now is the checkpoint
-        module _ (next : Extents) (guard : Freed) (slots : choice.InUse) (buf2 : Vec ℕ)
-            (same_slots : slots ≡ next_in_use s.hands.slots) (now : next.now ≡ table.now)
+        module _ (next : Extents) (guard : Freed) (slots : Slots) (buf2 : Vec ℕ)
+            (same_slots : used_in slots ≡ next_in_use (used_in s.hands.slots)) (now : next.now ≡ table.now)
             (kept : next.kept ≡ table.now) (next_digests : next.digests ≡ table.digests)
             (kept_digests : next.kept_digests ≡ table.digests) where
           abbrev pub upgraded_to : Inside C
@@ -183,17 +190,21 @@ module _ {C : ℕ} {s : Inside C} {t : StoreValue} {a : disk.State} (u : Upgrada
           view = upgraded_view mid store is_table few_mid fresh_mid next guard slots buf2 same_slots now kept
               next_digests kept_digests
 
-          pub upgrade_whole : vec_len buf ≡ 65536 → IsTable next → next.names ≡ table.names
-              → next.cap ≡ cap_of s.hands.slots.block.names 2 → guard.spans ≡ []
+          pub upgrade_whole : vec_len buf ≡ 65536 → has_logs slots ≡ false → IsTable next → next.names
+              ≡ table.names
+              → next.cap ≡ cap_of (used_in s.hands.slots).block.names 2 → guard.spans ≡ []
               → guard.room ≡ s.hands.guard.room → vec_len buf2 ≡ 65536 → IsWhole upgraded_to
-          upgrade_whole full next_table names cap spans room full2 = upgraded_whole mid store is_table few_mid
+          upgrade_whole full plain next_table names cap spans room full2 = upgraded_whole mid store is_table
+              few_mid
               fresh_mid next guard slots buf2 same_slots now kept next_digests kept_digests
-              (renewed_whole s u.whole plain_here table only buf is_table full) next_table names cap spans
+              (renewed_whole s u.whole plain_here table only buf is_table full) plain next_table names cap
+              spans
               room full2
 
-          module _ (saved : IsTrue b.tells → s.hands.slots.sequence + 1 < worn_from h.kind
-              → IsSaved (next_chosen s.hands.slots h (length records)) records d.file)
-              (in_use : IsTrue b.tells → choice.slot_in_use d.file ≡ Ok (next_in_use s.hands.slots)) where
+          module _ (saved : IsTrue b.tells → (used_in s.hands.slots).sequence + 1 < worn_from h.kind
+              → IsSaved (next_chosen (used_in s.hands.slots) h (length records)) records d.file)
+              (in_use : IsTrue b.tells → choice.slot_in_use d.file ≡ Ok
+              (next_in_use (used_in s.hands.slots))) where
             pub upgrade_done : (answer : Done) → (IsTrue b.tells → Rests d)
                 → Calls {E = Refusal} (save_calls (length records)) b d (Ok answer)
                 → UpgradeDone C t (kept_of upgraded_to) a d answer

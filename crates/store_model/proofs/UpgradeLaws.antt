@@ -19,7 +19,10 @@ use Rattle.slot_codec.specs.Reading.{worn_from}
 use Rattle.slot_codec.specs.Spelling.{cap as cap_of, head_len}
 use Rattle.slot_codec.specs.declared.codec.Header.{Header}
 use Rattle.slot_codec.specs.declared.codec.Record.{Record}
-use Rattle.slot_pair.specs.Saves.{IsSaved, SaveLeaves, next_chosen, next_in_use, save_calls}
+use Rattle.slot_pair.specs.Saves.{IsSaved, next_chosen, next_in_use, save_calls}
+use Rattle.logged_pair.specs.Slots.{has_logs, used_in}
+use Rattle.logged_pair.specs.declared.slots.Slots.{Slots}
+use Rattle.logged_pair.proofs.PlainSlots.{PlainSaveLeaves}
 use Rattle.segment_layout.specs.Books.{Book, version_of, with_digests}
 use Rattle.segment_layout.specs.Layouts.{caps_of, grid_of}
 use Rattle.table_rules.specs.Opening.{Opens}
@@ -226,9 +229,10 @@ module _ {C : ℕ} (s : Inside C) (whole : IsWhole s) (plain : (version_of (kept
   renewed_view = λ i. record (kept_of s) {
     now = (only i).now;
     kept = (only i).kept;
-    book = digested_book C s.hands.slots.block.k (caps_of s.hands.layout) (grid_of s.hands.layout)
+    book = digested_book C (used_in s.hands.slots).block.k (caps_of s.hands.layout) (grid_of s.hands.layout)
         (only i).now (unseen i);
-    kept_book = digested_book C s.hands.slots.block.k (caps_of s.hands.layout) (grid_of s.kept_layout)
+    kept_book = digested_book C (used_in s.hands.slots).block.k (caps_of s.hands.layout)
+        (grid_of s.kept_layout)
         (only i).kept (digests_seen s.hands.version (only i).kept_digests);
   }
 
@@ -236,6 +240,7 @@ module _ {C : ℕ} (s : Inside C) (whole : IsWhole s) (plain : (version_of (kept
   renewed_whole is_table full = record {
     classes = whole.classes;
     wide = whole.wide;
+    plain = whole.plain;
     version = whole.version;
     base = whole.base;
     few = whole.few;
@@ -255,8 +260,8 @@ module _ {C : ℕ} (s : Inside C) (whole : IsWhole s) (plain : (version_of (kept
 -- ---- a save of them in version 2
 
 module _ {C : ℕ} (s : Inside C) (store : IsStore C (kept_of s)) (table : IsTable s.hands.table)
-    (few : fin.len s.hands.table.now ≤ cap_of s.hands.slots.block.names 2)
-    (fresh : s.hands.slots.sequence < 2 ^ 61) where
+    (few : fin.len s.hands.table.now ≤ cap_of (used_in s.hands.slots).block.names 2)
+    (fresh : (used_in s.hands.slots).sequence < 2 ^ 61) where
   abbrev records : List Record
   records = rolled s.hands.table.now s.hands.table.digests
 
@@ -278,28 +283,29 @@ module _ {C : ℕ} (s : Inside C) (store : IsStore C (kept_of s)) (table : IsTab
 
   module _ (h : Header)
       (same : h ≡ in_version 2 (settled_header (caps_of s.hands.layout) (grid_of s.hands.layout)))
-      {b d : disk.State} (over : IsTrue b.tells → IsOver C (kept_of s) b.file)
-      (leaves : IsTrue b.tells → SaveLeaves s.hands.slots h records b d) (frame : KeepsDisk b d) where
+      {before : List Record} {b d : disk.State} (over : IsTrue b.tells → IsOver C (kept_of s) b.file)
+      (leaves : IsTrue b.tells → PlainSaveLeaves (used_in s.hands.slots) h before records b d)
+      (frame : KeepsDisk b d) where
     over_digested : IsTrue b.tells → IsOver C digested b.file
     over_digested told = upgraded_over (kept_of s) s.hands.table.digests b.file (over told)
 
-    left : IsTrue b.tells → SaveLeaves digested.in_use (header_now digested) records b d
-    left told = subst (λ x. SaveLeaves s.hands.slots x records b d) same (leaves told)
+    left : IsTrue b.tells → PlainSaveLeaves digested.in_use (header_now digested) before records b d
+    left told = subst (λ x. PlainSaveLeaves (used_in s.hands.slots) x before records b d) same (leaves told)
 
     pub save_failed : (refused : Refusal) → Calls {T = Done} (save_calls (length records)) b d (Err refused)
         → KeepsNow C digested (record digested { is_broken = true }) b d (Err refused)
     save_failed refused calls = keeps_failed digested sound fresh records same_table count over_digested left
         frame refused (record digested { is_broken = true }) refl calls
 
-    module _ (saved : IsTrue b.tells → s.hands.slots.sequence + 1 < worn_from h.kind
-        → IsSaved (next_chosen s.hands.slots h (length records)) records d.file)
-        (in_use : IsTrue b.tells → choice.slot_in_use d.file ≡ Ok (next_in_use s.hands.slots))
+    module _ (saved : IsTrue b.tells → (used_in s.hands.slots).sequence + 1 < worn_from h.kind
+        → IsSaved (next_chosen (used_in s.hands.slots) h (length records)) records d.file)
+        (in_use : IsTrue b.tells → choice.slot_in_use d.file ≡ Ok (next_in_use (used_in s.hands.slots)))
         (new : StoreValue) (new_is : new ≡ kept_now digested) where
       saved_now : IsTrue b.tells → IsSaved (table_now digested).chosen records d.file
       saved_now told = subst (λ n. IsSaved (next_chosen digested.in_use (header_now digested) n) records
           d.file) count
-          (subst (λ x. s.hands.slots.sequence + 1 < worn_from x.kind
-          → IsSaved (next_chosen s.hands.slots x (length records)) records d.file) same (saved told)
+          (subst (λ x. (used_in s.hands.slots).sequence + 1 < worn_from x.kind
+          → IsSaved (next_chosen (used_in s.hands.slots) x (length records)) records d.file) same (saved told)
           (omega (arith, fresh)))
 
       pub save_done : (answer : Done) → (IsTrue b.tells → Rests d)
@@ -317,8 +323,8 @@ module _ {C : ℕ} (s : Inside C) (store : IsStore C (kept_of s)) (table : IsTab
 
   -- ---- and the fields after it
 
-  module _ (next : Extents) (guard : Freed) (slots : choice.InUse) (buf : Vec ℕ)
-      (same_slots : slots ≡ next_in_use s.hands.slots) (now : next.now ≡ s.hands.table.now)
+  module _ (next : Extents) (guard : Freed) (slots : Slots) (buf : Vec ℕ)
+      (same_slots : used_in slots ≡ next_in_use (used_in s.hands.slots)) (now : next.now ≡ s.hands.table.now)
       (kept : next.kept ≡ s.hands.table.now) (digests : next.digests ≡ s.hands.table.digests)
       (kept_digests : next.kept_digests ≡ s.hands.table.digests) where
     abbrev pub upgraded_inside : Inside C
@@ -338,17 +344,18 @@ module _ {C : ℕ} (s : Inside C) (store : IsStore C (kept_of s)) (table : IsTab
           (kept i) (Some (kept_digests i));
     }
 
-    pub upgraded_whole : IsWhole s → IsTable next → next.names ≡ s.hands.table.names
-        → next.cap ≡ cap_of s.hands.slots.block.names 2 → guard.spans ≡ []
+    pub upgraded_whole : IsWhole s → has_logs slots ≡ false → IsTable next → next.names ≡ s.hands.table.names
+        → next.cap ≡ cap_of (used_in s.hands.slots).block.names 2 → guard.spans ≡ []
         → guard.room ≡ s.hands.guard.room → vec_len buf ≡ 65536 → IsWhole upgraded_inside
-    upgraded_whole whole is_table names cap spans room full =
-        let names_stay : slots.block.names ≡ s.hands.slots.block.names =
+    upgraded_whole whole plain is_table names cap spans room full =
+        let names_stay : (used_in slots).block.names ≡ (used_in s.hands.slots).block.names =
         ap (λ (u : choice.InUse). u.block.names) same_slots in
-        let k_stays : slots.block.k ≡ s.hands.slots.block.k =
+        let k_stays : (used_in slots).block.k ≡ (used_in s.hands.slots).block.k =
         ap (λ (u : choice.InUse). u.block.k) same_slots in
         record {
           classes = whole.classes;
           wide = whole.wide;
+          plain = plain;
           version = refl;
           base = whole.base ∙ ap head_len (sym names_stay);
           few = omega (arith, whole.few, names_stay);

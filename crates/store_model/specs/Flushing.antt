@@ -44,6 +44,7 @@ pub record MayBegin (classes : ℕ) (kept_grid : List (List ℕ)) (x : HandsValu
   pub cap : x.table.cap ≡ cap x.in_use.block.names x.version
   pub room : x.room ≡ x.in_use.block.names
   pub divisor : x.divisor ≡ x.in_use.block.k
+  pub plain : x.has_logs ≡ false
   pub version : IsTrue (is_version x.version)
 
 -- a charge of the change finds no room

@@ -6,6 +6,7 @@ use Rattle.size_class.specs.Rows.{cells_of}
 use Rattle.size_class.specs.declared.TheConstants.{SIZE_MAX}
 use Rattle.slot_codec.specs.Reading.{is_version}
 use Rattle.slot_codec.specs.Spelling.{cap, head_len}
+use Rattle.logged_pair.specs.Slots.{has_logs, used_in}
 use Rattle.segment_layout.specs.Layouts.{caps_of, divisor_of, grid_of}
 use Rattle.extent_table.specs.Extents.{IsTable, digests_seen}
 use Rattle.placement_model.specs.Held.{IsFreed}
@@ -35,12 +36,13 @@ pub record Inside (C : ℕ) : Type 0 where
 abbrev pub kept_of : {C : ℕ} → Inside C → StoreValue
 kept_of {C} s =
     record {
-      in_use = s.hands.slots;
+      in_use = used_in s.hands.slots;
       now = s.hands.table.now;
       kept = s.hands.table.kept;
-      book = digested_book C s.hands.slots.block.k (caps_of s.hands.layout) (grid_of s.hands.layout)
+      book = digested_book C (used_in s.hands.slots).block.k (caps_of s.hands.layout) (grid_of s.hands.layout)
           s.hands.table.now (digests_seen s.hands.version s.hands.table.digests);
-      kept_book = digested_book C s.hands.slots.block.k (caps_of s.hands.layout) (grid_of s.kept_layout)
+      kept_book = digested_book C (used_in s.hands.slots).block.k (caps_of s.hands.layout)
+          (grid_of s.kept_layout)
           s.hands.table.kept (digests_seen s.hands.version s.hands.table.kept_digests);
       is_broken = s.broken;
       moved = cells_of s.hands.ledger.moved;
@@ -56,7 +58,8 @@ hand_of {C} began s v = record {
   left = began.left;
   began = began.sequence;
   moved_then = cells_of began.moved;
-  book_after = with_digests (saved_digests (parts_of s.hands)) (book_of (laid C SIZE_MAX s.hands.slots.block.k
+  book_after = with_digests (saved_digests (parts_of s.hands))
+      (book_of (laid C SIZE_MAX (used_in s.hands.slots).block.k
       (course_in v).numbers.reach (phase_header (phase_in v s.hands.table) (caps_of s.hands.layout)
       (grid_of s.hands.layout)) s.hands.table.now));
 }
@@ -64,21 +67,22 @@ hand_of {C} began s v = record {
 abbrev pub seen : {C : ℕ} → Option (Phase C) → Began C → Inside C → StoreValue
 seen flush began s = record (kept_of s) { in_hand = option_map (hand_of began s) flush }
 
--- What holds of each store with no flush in hand; and while it isn't broken, that its parts belong together:
--- the guard has what the last checkpoint holds though nothing stands there now.
+-- What holds of each store with no flush in hand: its slots have no logs; and while it isn't broken, its parts
+-- belong together: the guard has what the last checkpoint holds though nothing stands there now.
 pub record IsWhole {C : ℕ} (s : Inside C) : Type 0 where
   pub classes : C ≤ 32
   pub wide : SIZE_MAX < 2 ^ C
+  pub plain : has_logs s.hands.slots ≡ false
   pub version : IsTrue (is_version s.hands.version)
-  pub base : s.hands.base ≡ head_len s.hands.slots.block.names
-  pub few : s.hands.slots.block.names ≤ 65536
+  pub base : s.hands.base ≡ head_len (used_in s.hands.slots).block.names
+  pub few : (used_in s.hands.slots).block.names ≤ 65536
   pub buf : vec_len s.hands.buf ≡ 65536
-  pub divisor : divisor_of s.hands.layout ≡ s.hands.slots.block.k
-  pub kept_divisor : divisor_of s.kept_layout ≡ s.hands.slots.block.k
+  pub divisor : divisor_of s.hands.layout ≡ (used_in s.hands.slots).block.k
+  pub kept_divisor : divisor_of s.kept_layout ≡ (used_in s.hands.slots).block.k
   pub kept_caps : caps_of s.kept_layout ≡ caps_of s.hands.layout
-  pub room : s.hands.table.names ≡ s.hands.slots.block.names
-  pub cap : s.hands.table.cap ≡ cap s.hands.slots.block.names s.hands.version
-  pub guard_room : s.hands.guard.room ≡ s.hands.slots.block.names
+  pub room : s.hands.table.names ≡ (used_in s.hands.slots).block.names
+  pub cap : s.hands.table.cap ≡ cap (used_in s.hands.slots).block.names s.hands.version
+  pub guard_room : s.hands.guard.room ≡ (used_in s.hands.slots).block.names
   pub table : s.broken ≡ false → IsTable s.hands.table
   pub sound : s.broken ≡ false → IsStore C (kept_of s)
   pub freed : s.broken ≡ false → IsFreed s.hands.guard.spans s.hands.table.now s.hands.table.kept
@@ -88,7 +92,7 @@ abbrev pub still_frame : {C : ℕ} → Began C → Inside C → Phase C → Flus
 still_frame {C} began s v = record {
   classes = C;
   size_max = SIZE_MAX;
-  base = head_len s.hands.slots.block.names;
+  base = head_len (used_in s.hands.slots).block.names;
   reach = (course_in v).numbers.reach;
   is_fresh = true;
   is_at_rest = false;
@@ -124,7 +128,7 @@ pub record IsGoing {C : ℕ} (began : Began C) (s : Inside C) (v : Phase C) : Ty
   pub goes : GoesOn (still_frame began s v) v (parts_of s.hands) untold
   pub keeps : KeepsIn v (items_in v s.hands.table)
   pub steps : steps_left v s.hands.table ≤ began.left
-  pub room : s.hands.slots.sequence + steps_left v s.hands.table ≤ 2 ^ 61 + 2 ^ 18
+  pub room : (used_in s.hands.slots).sequence + steps_left v s.hands.table ≤ 2 ^ 61 + 2 ^ 18
   pub paid : PaidIn began.sequence v (parts_of s.hands)
   pub mark : Mark
   pub sequence : mark.sequence ≡ began.sequence

@@ -1,4 +1,5 @@
 use Rattle.std.proofs.Common.{arith, refl, sym, subst}
+use Rattle.logged_pair.specs.Slots.{used_in}
 use Rattle.flush_run.specs.Parts.{parts_of}
 use Rattle.flush_run.specs.Phases.{GoesOn, KeepsIn, PaidIn, items_in, phase_in}
 use Rattle.flush_run.specs.declared.phase.Phase.{Phase}
@@ -42,7 +43,7 @@ returns-in_default-clause-goes g c f can =
 
 pub returns-in_default-clause-left : goal.returns-in_default-clause-left
 returns-in_default-clause-left g c f can told =
-    left_still f c.args.hands.now.slots c.args.hands.now.table (g.D.Disk.state c.args.disk.now)
+    left_still f (used_in c.args.hands.now.slots) c.args.hands.now.table (g.D.Disk.state c.args.disk.now)
     (can.on.goes.flies told)
 
 pub returns-in_default-clause-keeps : goal.returns-in_default-clause-keeps

@@ -1,4 +1,5 @@
 use Rattle.std.proofs.Common.{refl}
+use Rattle.logged_pair.specs.Slots.{used_in}
 use Rattle.flush_run.specs.Parts.{parts_of}
 use Rattle.flush_run.proofs.LeftLaws.{left_still}
 use Rattle.flush_run.proofs.MakeMoveLaws.{save_as}
@@ -6,11 +7,11 @@ use Rattle.flush_run.proofs.moves.free_target.Goals as goal
 
 pub returns-in_default-clause-left : goal.returns-in_default-clause-left
 returns-in_default-clause-left g c f told can was =
-    left_still f c.args.hands.now.slots c.args.hands.now.table (g.D.Disk.state c.args.disk.now) was
+    left_still f (used_in c.args.hands.now.slots) c.args.hands.now.table (g.D.Disk.state c.args.disk.now) was
 
 pub returns-then-not-touches-clause-left : goal.returns-then-not-touches-clause-left
 returns-then-not-touches-clause-left g c f told can was =
-    left_still f c.args.hands.now.slots c.args.hands.now.table (g.D.Disk.state c.args.disk.now) was
+    left_still f (used_in c.args.hands.now.slots) c.args.hands.now.table (g.D.Disk.state c.args.disk.now) was
 
 pub returns-then-not-touches-clause-answer : goal.returns-then-not-touches-clause-answer
 returns-then-not-touches-clause-answer g c = record {

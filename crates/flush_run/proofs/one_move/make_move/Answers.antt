@@ -1,5 +1,6 @@
 use Rattle.std.proofs.Common.{arith, refl, ◌∙◌, ap, subst, List, ℕ}
-use Rattle.slot_codec.specs.Choice as choice
+use Rattle.logged_pair.specs.Slots.{used_in}
+use Rattle.logged_pair.specs.declared.slots.Slots.{Slots}
 use Rattle.flush_run.specs.MadeMoves.{RowMoves}
 use Rattle.flush_run.specs.Parts.{parts_of}
 use Rattle.flush_run.proofs.LeftLaws.{left_then, left_wider, source_within, still_told, target_within, told_before}
@@ -82,11 +83,12 @@ returns-in_err-move_one-clause-left g c f p can told =
     let goes = make_goes can _ refl refl _ answer t.keeps (c.in_ok-free_target.ensures.flies f) in
     let space = make_space can _ refl refl _ answer t.keeps (c.in_ok-free_target.ensures.flies f) in
     let there = still_told t.keeps told in
-    let slots = ap (λ (u : choice.InUse). u.sequence) c.move_one.ensures.slots in
+    let slots = ap (λ (s : Slots). (used_in s).sequence) c.move_one.ensures.slots in
     left_then (omega (arith, t.later, slots))
     (t.left f told (make_saveable can) (can.ready.goes.flies told))
     (left_wider (omega (arith, slots))
-    (c.move_one.ensures.left f c.free_target.new.hands.slots there goes.same_base space (goes.flies there)))
+    (c.move_one.ensures.left f (used_in c.free_target.new.hands.slots) there goes.same_base space
+    (goes.flies there)))
 
 pub returns-clause-left : goal.returns-clause-left
 returns-clause-left g c f p can told =
@@ -95,11 +97,12 @@ returns-clause-left g c f p can told =
     let goes = make_goes can _ refl refl _ answer t.keeps (c.in_ok-free_target.ensures.flies f) in
     let space = make_space can _ refl refl _ answer t.keeps (c.in_ok-free_target.ensures.flies f) in
     let there = still_told t.keeps told in
-    let slots = ap (λ (u : choice.InUse). u.sequence) c.move_one.ensures.slots in
+    let slots = ap (λ (s : Slots). (used_in s).sequence) c.move_one.ensures.slots in
     left_then (omega (arith, t.later, slots))
     (t.left f told (make_saveable can) (can.ready.goes.flies told))
     (left_wider (omega (arith, slots))
-    (c.move_one.ensures.left f c.free_target.new.hands.slots there goes.same_base space (goes.flies there)))
+    (c.move_one.ensures.left f (used_in c.free_target.new.hands.slots) there goes.same_base space
+    (goes.flies there)))
 
 pub returns-clause-goes : goal.returns-clause-goes
 returns-clause-goes g c f p can =
@@ -109,11 +112,12 @@ returns-clause-goes g c f p can =
     let goes = make_goes can _ refl refl _ answer t.keeps (c.in_ok-free_target.ensures.flies f) in
     let space = make_space can _ refl refl _ answer t.keeps (c.in_ok-free_target.ensures.flies f) in
     let r = make_can can _ refl refl _ answer t.keeps (c.in_ok-free_target.ensures.flies f) in
-    make_next can _ refl refl _ answer t.keeps (c.in_ok-free_target.ensures.flies f) m.keeps m.slots
+    make_next can _ refl refl _ answer t.keeps (c.in_ok-free_target.ensures.flies f) m.keeps
+    (ap used_in m.slots)
     c.in_ok-move_one.ensures.moved
     (λ told3.
     let back = told_before m.keeps told3 in
-    c.in_ok-move_one.ensures.flies f c.free_target.new.hands.slots back goes.same_base space r.to
+    c.in_ok-move_one.ensures.flies f (used_in c.free_target.new.hands.slots) back goes.same_base space r.to
     (goes.flies back))
 
 pub returns-clause-made : goal.returns-clause-made
@@ -133,7 +137,7 @@ returns-clause-made g c =
       frees = answer;
       can = r.can;
       moved = c.in_ok-move_one.ensures.moved;
-      slots = m.slots;
+      slots = ap used_in m.slots;
       keeps = KeepsOn-then t.keeps m.keeps;
       row = subst (λ (row : List ℕ). RowMoves c.args.mv.now row (parts_of c.move_one.new.hands).moved) t.moved
           c.in_ok-move_one.ensures.ledger;

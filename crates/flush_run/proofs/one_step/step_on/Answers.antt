@@ -1,5 +1,6 @@
 use Rattle.std.proofs.Common.{◌≡◌, ◌≤◌, arith, refl, ap, ◌∙◌}
 use Rattle.disk_face.specs.Counts.{Rose}
+use Rattle.logged_pair.specs.Slots.{used_in}
 use Rattle.flush_run.specs.Parts.{HandsValue}
 use Rattle.flush_run.proofs.AdvanceLaws.{over_in}
 use Rattle.flush_run.proofs.LeftLaws.{left_wider}
@@ -171,7 +172,8 @@ returns-in-Ok-settle g c =
       left = λ f can told. one_left state same i (left_wider (omega (arith, s.later))
           (s.left f (one_settles state same i can c.in-End.ensures.course) (one_told state same i told)));
       keeps = tt;
-      paid = λ q paid. one_pays state same i c.requires.start.1 c.settle.new.hands.slots e.pair q paid;
+      paid = λ q paid. one_pays state same i c.requires.start.1 (used_in c.settle.new.hands.slots) e.pair q
+          paid;
       made = one_ended state same i (record {
         pair = e.pair;
         spots = s.spots;

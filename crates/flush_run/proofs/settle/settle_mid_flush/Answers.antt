@@ -7,6 +7,7 @@ use Rattle.disk_face.specs.Moments.{Follows, Only, ResizedImage}
 use Rattle.flush_run.specs.Settling.{IsSettled}
 use Rattle.flush_run.proofs.SettleLaws.{content_is_new, cut_held, settled, sync_held}
 use Rattle.slot_pair.specs.Saves.{next_in_use}
+use Rattle.logged_pair.specs.Slots.{used_in}
 use Rattle.flush_run.proofs.settle.settle_mid_flush.Goals as goal
 
 pub returns-in_err-save_mid_flush-clause-left : goal.returns-in_err-save_mid_flush-clause-left
@@ -18,7 +19,7 @@ returns-in_err-set_len-clause-left g c f end told len s cut was fresh =
     let D = g.D.Disk in
     let a = D.state c.save_mid_flush.new.disk in
     let b = D.state c.set_len.new.self in
-    let u = c.args.hands.now.slots in
+    let u = used_in c.args.hands.now.slots in
     let t = c.args.hands.now.table in
     let h = c.args.header.now in
     let saved = c.in_ok-save_mid_flush.ensures.opened f told c.requires.fresh s was in
@@ -42,7 +43,7 @@ returns-clause-left g c f end told len s cut was fresh =
     let a = D.state c.save_mid_flush.new.disk in
     let b = D.state c.set_len.new.self in
     let e = D.state c.sync.new.self in
-    let u = c.args.hands.now.slots in
+    let u = used_in c.args.hands.now.slots in
     let t = c.args.hands.now.table in
     let h = c.args.header.now in
     let saved = c.in_ok-save_mid_flush.ensures.opened f told c.requires.fresh s was in
@@ -68,7 +69,7 @@ returns-clause-settled g c f end told len s cut was =
     let a = D.state c.save_mid_flush.new.disk in
     let b = D.state c.set_len.new.self in
     let e = D.state c.sync.new.self in
-    let u = c.args.hands.now.slots in
+    let u = used_in c.args.hands.now.slots in
     let t = c.args.hands.now.table in
     let h = c.args.header.now in
     let saved = c.in_ok-save_mid_flush.ensures.opened f told c.requires.fresh s was in

@@ -1,4 +1,5 @@
 use Rattle.std.proofs.Common.{arith, refl}
+use Rattle.logged_pair.specs.Slots.{used_in}
 use Rattle.flush_run.proofs.RunLaws.{run_finishes}
 use Rattle.flush_run.proofs.whole.run.Goals as goal
 
@@ -29,7 +30,7 @@ returns g c =
     record {
       ends = λ f can. e.ends f (run_finishes {C = g.row.C} c.args.phase can);
       left = λ f can told. e.left f (run_finishes {C = g.row.C} c.args.phase can) told;
-      saves = e.paid c.args.hands.now.slots.sequence refl;
+      saves = e.paid (used_in c.args.hands.now.slots).sequence refl;
       done = e.done;
       made = e.made;
       cause = e.cause;

@@ -1,9 +1,11 @@
-use Rattle.std.proofs.Common.{◌∙◌, ap, arith, lit<, subst, sym}
+use Rattle.std.proofs.Common.{◌∙◌, ap, arith, lit<, refl, subst, sym}
 use Rattle.size_class.specs.declared.TheConstants.{SIZE_MAX}
 use Rattle.slot_codec.specs.Readable.{IsSuperBlock}
 use Rattle.slot_codec.proofs.CapLaws.{cap-low}
 use Rattle.slot_codec.specs.Spelling.{cap, head_len}
 use Rattle.slot_codec.specs.declared.codec.SuperBlock.{SuperBlock}
+use Rattle.logged_pair.specs.Slots.{used_in}
+use Rattle.logged_pair.specs.declared.slots.Slots.TheVariants as slots
 use Rattle.segment_layout.specs.Layouts.{caps_of, grid_of}
 use Rattle.table_rules.specs.Rules.{IsValid}
 use Rattle.extent_table.specs.Extents.{Extents, IsTable, digests_seen}
@@ -24,7 +26,7 @@ store_with-requires g c =
       table = e;
       layout = l;
       guard = c.in_ok-guard.field-0.guard;
-      slots = c.args.slots;
+      slots = slots.Plain c.args.slots;
       ledger = c.no_bytes.result;
       buf = c.in_ok-guard.field-0.buf;
       base = c.head_len.result;
@@ -60,6 +62,7 @@ store_with-requires g c =
                 spans = made.none;
                 guard_room = made.guard_room ∙ ap (λ (b : SuperBlock). b.names) same;
                 base = c.head_len.ensures ∙ ap (λ (b : SuperBlock). head_len b.names) same;
+                plain = refl;
                 version = r.version;
                 buffer = made.buffer;
               }))),
@@ -69,7 +72,7 @@ store_with-requires g c =
 
 pub returns : goal.returns
 returns g c =
-    let seen : Hands g.row.C → StoreValue = λ h. opened_store g.row.C h.slots h.table.now
+    let seen : Hands g.row.C → StoreValue = λ h. opened_store g.row.C (used_in h.slots) h.table.now
     (digests_seen h.version h.table.digests) (caps_of h.layout) (grid_of h.layout) in
     c.store_with.ensures ∙ ap seen c.in_ok-hands.ensures
     ∙ ap (λ (e : Extents). opened_store g.row.C c.args.slots e.now

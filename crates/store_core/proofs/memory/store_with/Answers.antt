@@ -1,5 +1,6 @@
 use Rattle.std.specs.Prelude.{◌≡◌, ℕ}
 use Rattle.std.proofs.Common.{ap, false, refl, subst, sym, ◌∙◌}
+use Rattle.logged_pair.specs.Slots.{used_in}
 use Rattle.size_class.specs.Classes.{zero_row}
 use Rattle.size_class.specs.Rows.{cells_of}
 use Rattle.data_area.specs.declared.ledger.Ledger.{Ledger}
@@ -42,6 +43,7 @@ is_new hands ledger r moved asked = record {
   guard_room = r.guard_room;
   moved = moved;
   asked = asked;
+  plain = r.plain;
   version = r.version;
   base = r.base;
   buf = r.buffer;
@@ -65,6 +67,6 @@ returns g c =
     new_view (made hands ledger)
     (is_new hands ledger (subst (λ h. MakesStore h) (sym c.deref_mut-lent.ensures.value) c.requires)
     said.moved said.asked)
-    ∙ ap (λ (h : Hands g.row.C). opened_store g.row.C h.slots h.table.now
+    ∙ ap (λ (h : Hands g.row.C). opened_store g.row.C (used_in h.slots) h.table.now
     (digests_seen h.version h.table.digests) (caps_of h.layout)
     (grid_of h.layout)) c.deref_mut-lent.ensures.value

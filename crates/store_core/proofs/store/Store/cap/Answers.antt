@@ -1,6 +1,7 @@
 use Rattle.std.proofs.Common.{◌∙◌, ap, refl, subst, sym, true}
 use Rattle.slot_codec.specs.Spelling.{cap}
 use Rattle.slot_codec.specs.declared.codec.SuperBlock.{SuperBlock}
+use Rattle.logged_pair.specs.Slots.{used_in}
 use Rattle.store_model.specs.Connection.{live_cap}
 use Rattle.store_model.specs.Inside.{Inside, IsWhole, kept_of}
 use Rattle.store_core.specs.Boxes.{unboxed}
@@ -18,5 +19,5 @@ returns g c =
     let broken : Inside g.row.C → Inside g.row.C = λ s. record s { broken = true } in
     let invariant = subst (λ s. IsWhole (broken s)) (sym is_lent) parts in
     c.cap.ensures ∙ ap (λ (b : SuperBlock). cap b.names inside.hands.version) c.block.ensures
-    ∙ ap (cap inside.hands.slots.block.names) (sym (version_is (broken inside) invariant))
+    ∙ ap (cap (used_in inside.hands.slots).block.names) (sym (version_is (broken inside) invariant))
     ∙ ap live_cap view_is
