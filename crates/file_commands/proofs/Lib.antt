@@ -7,3 +7,4 @@ mod Formatting
 mod TextLaws
 mod GatherLaws
 mod MapLaws
+pub mod DumpableLaws

@@ -21,7 +21,7 @@ use Rattle.table_rules.specs.Tables.{end_of_record, map_of, no_record, size_sum}
 use Rattle.placement_model.proofs.OpenedLaws.{record_within}
 
 module _ (base : ℕ) (file : List ℕ) where
-  abbrev entry_of : Record → List ℕ × List ℕ
+  abbrev pub entry_of : Record → List ℕ × List ℕ
   entry_of r = (r.name, bytes_at file (base + r.place) r.size)
 
   below_true : (k j : List ℕ) → ((n : List ℕ) → is_lt (name_cmp j n) ≡ true → is_lt (name_cmp k n) ≡ true)
@@ -40,7 +40,6 @@ module _ (base : ℕ) (file : List ℕ) where
       let rest = sorted_true (Some r.name) rs h.2 in
       λ i. first i && rest i
 
-  -- the map has an entry for each record
   entries_are : (rs : List Record) → RiseFrom None rs → fin.entries (map_of base file rs) ≡ map entry_of rs
   entries_are rs h =
       let es = map entry_of rs in
@@ -68,15 +67,16 @@ module _ (logged : Bool) (classes most : ℕ) (t : choice.SlotTable) (file : Lis
   rise : RiseFrom None t.records
   rise = table_rises_in logged file t o.read
 
-  entries : fin.entries m ≡ map (entry_of (head_len t.chosen.block.names) file) t.records
-  entries = ap fin.entries o.same_map ∙ entries_are (head_len t.chosen.block.names) file t.records rise
+  -- the map has an entry for each record
+  pub entries_of_map : fin.entries m ≡ map (entry_of (head_len t.chosen.block.names) file) t.records
+  entries_of_map = ap fin.entries o.same_map ∙ entries_are (head_len t.chosen.block.names) file t.records rise
 
   -- as many names as records, and as many bytes
   pub names_counted : fin.len m ≡ length t.records
-  names_counted = fin.len-entries m ∙ ap length entries
+  names_counted = fin.len-entries m ∙ ap length entries_of_map
       ∙ length-map t.records (entry_of (head_len t.chosen.block.names) file)
 
   pub bytes_counted : volume m ≡ size_sum t.records
   bytes_counted =
-      ap (λ (es : List (List ℕ × List ℕ)). sum_by length (map (λ (e : List ℕ × List ℕ). e.1) es)) entries
+      ap (λ (es : List (List ℕ × List ℕ)). sum_by length (map (λ (e : List ℕ × List ℕ). e.1) es)) entries_of_map
       ∙ sizes_are (head_len t.chosen.block.names) file t.records (record_within classes most t file m b o)

@@ -1,11 +1,12 @@
 //! Laws of the files that these commands make and tell of.
-ghost use Rattle.std.specs.Prelude.{◌≡◌, List, ℕ, codes, length};
+ghost use Rattle.std.specs.Prelude.{◌≡◌, ◌≤◌, List, ℕ, codes, length};
 ghost use Rattle.std.specs.FinMap as fin;
 ghost use Rattle.slot_codec.specs.Choice as choice;
 ghost use Rattle.slot_pair.specs.Formats.{HasFirstTable, IsNoStore, first_table};
 ghost use Rattle.segment_layout.specs.Books.{Book, empty_book};
 ghost use Rattle.map_model.specs.Maps.{Map, volume};
 ghost use Rattle.table_rules.specs.{Opening.{Opens, OpensBy, ReadsBy}, Tables.{size_sum}};
+ghost use Rattle.dump_stream.specs.Dumps.{IsDumpOf, dump_text};
 ghost use Rattle.file_commands.specs.{Texts.{check_text, map_text}, Worked.{hello, moved_up}};
 
 use size_class::{CLASSES, SIZE_MAX};
@@ -22,6 +23,14 @@ pub fn told_of_the_map()
         → ReadsBy CLASSES SIZE_MAX t file m b → length t.records ≡ fin.len m }
     ensures bytes_read { (t : choice.SlotTable) (file : List ℕ) (m : Map) (b : Book)
         → ReadsBy CLASSES SIZE_MAX t file m b → size_sum t.records ≡ volume m }
+{}
+
+/// The map of a file that opens has a dump, and no more names than the file has room for.
+pub fn a_map_of_a_file_has_a_dump()
+    ensures dump { (file : List ℕ) (m : Map) (b : Book) → Opens CLASSES SIZE_MAX file m b
+        → IsDumpOf CLASSES SIZE_MAX m (dump_text CLASSES m) }
+    ensures few { (t : choice.SlotTable) (file : List ℕ) (m : Map) (b : Book)
+        → OpensBy CLASSES SIZE_MAX t file m b → fin.len m ≤ t.chosen.block.names }
 {}
 
 /// A file with the table that a store is made with opens by it to the empty map and the empty book, and a

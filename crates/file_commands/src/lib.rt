@@ -14,4 +14,6 @@ mod load;
 mod map;
 
 pub use command::{check_from, dump_from, format_in, get_from, map_from};
-pub use laws::{a_formatted_file_is_the_empty_store, told_of_the_map, worked_texts};
+pub use laws::{
+    a_formatted_file_is_the_empty_store, a_map_of_a_file_has_a_dump, told_of_the_map, worked_texts,
+};
